@@ -1,6 +1,7 @@
 //! The rows of a segment, added to the groups of a query.
 
 ghost use Rattle.std.specs.Prelude.{◌≡◌, ◌-◌, ◌+◌, ◌≤◌, ◌<◌, Err, IfOk, OnOk, length};
+ghost use Rattle.std.specs.FinMap as finite;
 ghost use Rattle.agg_laws.specs.Numbers.{most_values};
 ghost use Rattle.values.specs.Columns.{rows_of};
 ghost use Rattle.group_table.specs.declared.fault.TableFault.TheVariants.{TooManyGroups};
@@ -50,6 +51,8 @@ pub fn add_coded(
         table.old table.new) }
     ensures full { result ≡ Err TooManyGroups → IsOverfull query.now
         (selected (rest_of query.now choices.now) (rows_of (table_of segment.now))) table.old }
+    ensures filled { result ≡ Err TooManyGroups →
+        finite.len (groups_in table.new) ≡ table.old.most }
 {
     let row_filters = row_filters_of(alloc, segment, query.conjuncts.as_slice(), choices)?;
     add_filtered(alloc, query, segment, row_filters.as_slice(), table)
@@ -73,6 +76,8 @@ pub fn add_blocks<'a, 'i>(
     ensures full { result ≡ Err TooManyGroups → IsOverfull query.now
         (rows_at (table_of segment.now).columns
         (passing (λ at. all_let at row_filters.now) 0 segment.now.count)) table.old }
+    ensures filled { result ≡ Err TooManyGroups →
+        finite.len (groups_in table.new) ≡ table.old.most }
 {
     let rows = FilteredRows {
         segment,
@@ -137,6 +142,8 @@ fn add_block(
         (rows_at (table_of rows.entry.segment.now).columns
         (passing (λ at. all_let at rows.entry.row_filters.now) done
         (block.from + block.length - done))) table.old }
+    ensures filled { result ≡ Err TooManyGroups →
+        finite.len (groups_in table.new) ≡ table.old.most }
 {
     push_block(alloc, rows.row_filters, rows.segment.count, block, places)?;
     let most = FEW_PLACES.max(table.groups() as usize * PLACES_A_GROUP);
@@ -168,6 +175,8 @@ fn add_some(
         (rows_at (table_of segment.now).columns places.now) table.old table.new) }
     ensures full { result ≡ Err TooManyGroups
         → IsOverfull query.now (rows_at (table_of segment.now).columns places.now) table.old }
+    ensures filled { result ≡ Err TooManyGroups →
+        finite.len (groups_in table.new) ≡ table.old.most }
 {
     if places.is_empty() {
         return Ok(());
@@ -193,6 +202,8 @@ fn add_places(
         (rows_at (table_of segment.now).columns places.now) table.old table.new) }
     ensures full { result ≡ Err TooManyGroups
         → IsOverfull query.now (rows_at (table_of segment.now).columns places.now) table.old }
+    ensures filled { result ≡ Err TooManyGroups →
+        finite.len (groups_in table.new) ≡ table.old.most }
 {
     let groups = slots_of(alloc, segment, query.groups.as_slice(), places)?;
     let aggs = query.aggs.as_slice();

@@ -4,6 +4,7 @@ ghost use Rattle.std.specs.Prelude.{◌≡◌, ◌≤◌, ◌<◌, ◌-◌, ℕ,
 ghost use Rattle.std.specs.List.{All};
 ghost use Rattle.values.specs.Columns.{row_of};
 ghost use Rattle.state_columns.specs.Columns.{row_at};
+ghost use Rattle.std.specs.FinMap as finite;
 ghost use Rattle.agg_laws.specs.Numbers.{most_values};
 ghost use Rattle.value_ids.specs.Coding.{AreBelow};
 ghost use Rattle.group_table.specs.declared.fault.TableFault.TheVariants.{TooManyGroups};
@@ -46,6 +47,8 @@ pub fn merge_slots(
         (rows_at (table_of segment.now).columns places.now) table.old table.new) }
     ensures full { result ≡ Err TooManyGroups
         → IsOverfull query.now (rows_at (table_of segment.now).columns places.now) table.old }
+    ensures filled { result ≡ Err TooManyGroups →
+        finite.len (groups_in table.new) ≡ table.old.most }
 {
     let columns = query.groups.as_slice();
     let mut values = Vec::with_capacity(alloc, columns.len())?;

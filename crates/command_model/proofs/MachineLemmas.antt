@@ -31,7 +31,8 @@ use Rattle.sql_reply.proofs.AskedLemmas.{unasked_none}
 use Rattle.query_executor.specs.Answers.{IsReply}
 use Rattle.query_executor.specs.Explained.{IsExplained, explained, lines_or}
 use Rattle.query_executor.specs.Lines.{in_order}
-use Rattle.segment_head.specs.Stored.{HasImage, stored_rows}
+use Rattle.segment_reads.proofs.NameLemmas.{names_live}
+use Rattle.segment_head.specs.Stored.{HasImage, live, names_of, stored_rows}
 use Rattle.query_executor.specs.Stated.{IsStated, stated, stated_by}
 use Rattle.table_store.specs.Accepted.{IsAccepted, IsNoTableFile}
 use Rattle.table_store.specs.Segments.{AreFirstNames, IsFull, has_segment, most_segments}
@@ -350,7 +351,7 @@ module _ (stored : Files) (texts : state.Texts) (segments : Segments) (stands : 
   RowsOf name = rows_in (map.get segments name)
 
   -- the file of a segment is the image of rows that are its own
-  pub came : (name : List ℕ) → has_segment stored name ≡ true → (rows : List (List Value)) × HasImage table stored name rows × (ordered table.settings.sorted rows ≡ RowsOf name)
+  pub came : (name : List ℕ) → has_segment stored name ≡ true → (rows : List (List Value)) × HasImage table stored (live name) rows × (ordered table.settings.sorted rows ≡ RowsOf name)
   came name there =
       let kept = segment_kept_so stored texts segments table name stands accepted there in
       let tables : stands.table ≡ table = one_table texts stands.table table stands.valid.accepted accepted in
@@ -364,7 +365,7 @@ module _ (stored : Files) (texts : state.Texts) (segments : Segments) (stands : 
       (of.came, record { can = of.can; stored = bytes }, sym (ap rows_in kept.got ∙ rows))
 
   all_came : (names : List (List ℕ)) → ((k : ℕ) → k < length names → has_segment stored (get_or names k []) ≡ true)
-      → (rows : List (List (List Value))) × AllZip (HasImage table stored) names rows × (stored_rows table rows ≡ flat_map RowsOf names) × (in_order table rows ≡ each RowsOf names)
+      → (rows : List (List (List Value))) × AllZip (HasImage table stored) (each live names) rows × (stored_rows table rows ≡ flat_map RowsOf names) × (in_order table rows ≡ each RowsOf names)
   all_came [] there = ([], tt, refl, refl)
   all_came (name ∷ names) there =
       let (first, has, is) = came name (there 0 (omega arith)) in
@@ -376,26 +377,26 @@ module _ (stored : Files) (texts : state.Texts) (segments : Segments) (stands : 
   reply_right Rows names sql reply are is =
       let keys : names ≡ map.keys segments = names_all stored texts segments stands names are in
       let (rows, have, same, alike) = all_came (map.keys segments) (key_there stored texts segments stands) in
-      let replies : sql_reply table false sql (stored_rows table rows) ≡ reply = subst (λ ns. IsReply table stored ns sql reply) keys is rows have in
+      let replies : sql_reply table false sql (stored_rows table rows) ≡ reply = subst (λ ns. IsReply table stored (each live ns) sql reply) keys is rows have in
       ap (rows_answer Rows segments sql) (read_as texts table accepted) ∙ ap (λ of. sql_answered (sql_reply table false sql of)) (sym same) ∙ ap sql_answered replies
   reply_right Plans names sql reply are is =
       let keys : names ≡ map.keys segments = names_all stored texts segments stands names are in
       let (rows, have, same, alike) = all_came (map.keys segments) (key_there stored texts segments stands) in
-      let replies : explained table sql (map.keys segments) (in_order table rows) ≡ reply = subst (λ ns. IsExplained table stored ns sql reply) keys is rows have in
+      let replies : explained table sql (map.keys segments) (in_order table rows) ≡ reply = ap (λ ns. explained table sql ns (in_order table rows)) (sym (names_live (map.keys segments))) ∙ subst (λ ns. IsExplained table stored (each live ns) sql reply) keys is rows have in
       ap (rows_answer Plans segments sql) (read_as texts table accepted) ∙ ap (λ of. sql_answered (explained table sql (map.keys segments) of)) (sym alike) ∙ ap sql_answered replies
   reply_right RowsAndPlans names sql reply are is =
       let keys : names ≡ map.keys segments = names_all stored texts segments stands names are in
       let (rows, have, same, alike) = all_came (map.keys segments) (key_there stored texts segments stands) in
-      let replies : stated table sql (map.keys segments) (in_order table rows) ≡ reply = subst (λ ns. IsStated table stored ns sql reply) keys is rows have in
+      let replies : stated table sql (map.keys segments) (in_order table rows) ≡ reply = ap (λ ns. stated table sql ns (in_order table rows)) (sym (names_live (map.keys segments))) ∙ subst (λ ns. IsStated table stored (each live ns) sql reply) keys is rows have in
       ap (rows_answer RowsAndPlans segments sql) (read_as texts table accepted) ∙ ap (λ of. sql_answered (stated table sql (map.keys segments) of)) (sym alike) ∙ ap sql_answered replies
 
   -- what is wrong with a text is the reply to it
   text_wrong : (about : About) (names : List (List ℕ)) (sql : List ℕ) (wrong : SqlFault) → asked table false sql ≡ Err wrong → HasReply about table stored names sql (Err wrong)
   text_wrong Rows names sql wrong is = λ rows have. unasked_none table false sql wrong (stored_rows table rows) is
-  text_wrong Plans names sql wrong is = λ rows have. ap (lines_or table names (in_order table rows)) is
+  text_wrong Plans names sql wrong is = λ rows have. ap (lines_or table (names_of (each live names)) (in_order table rows)) is
   text_wrong RowsAndPlans names sql wrong is = λ rows have.
       let all : List (List Value) = flat_map (λ r. r) (in_order table rows) in
-      ap (stated_by table names (in_order table rows) (sql_reply table false sql all)) is ∙ unasked_none table false sql wrong all is
+      ap (stated_by table (names_of (each live names)) (in_order table rows) (sql_reply table false sql all)) is ∙ unasked_none table false sql wrong all is
 
   fault_reply : (about : About) (names : List (List ℕ)) (sql : List ℕ) (wrong : SqlFault) → IsFaultOf about table stored names sql wrong → HasReply about table stored names sql (Err wrong)
   fault_reply about names sql (query.LongQuery most) is = text_wrong about names sql (query.LongQuery most) is

@@ -1,17 +1,19 @@
 -- What a command reads of the segments of a store, however it ends.
-use Rattle.std.specs.Prelude.{◌≡◌, ◌<◌, ◌⊎◌, ℕ, Bool, true, false, List, [], length, get_or, Option, Some, Result, Ok, Err, IfSome}
+use Rattle.std.specs.Prelude.{◌≡◌, ◌<◌, ◌⊎◌, ℕ, Bool, true, false, List, [], length, map, get_or, Option, Some, Result, Ok, Err, IfSome}
 use Rattle.std.specs.List.{AllZip, Contains}
 use Rattle.outside.specs.Files.{Files}
 use Rattle.outside.specs.Reads.{Entry}
 use Rattle.values.specs.declared.value.Value.{Value}
 use Rattle.table_schema.specs.declared.query.BoundQuery.{BoundQuery}
 use Rattle.table_schema.specs.declared.table.Table.{Table}
+use Rattle.segment_file.specs.Names.{file_of}
 use Rattle.segment_file.specs.Ordered.{ordered}
 use Rattle.sql_reply.specs.Asked.{asked}
 use Rattle.sql_reply.specs.declared.fault.SqlFault.{SqlFault}
-use Rattle.segment_reads.specs.Logs.{IsFileOf, IsHeadRead, LogsThat, LogsWhere}
+use Rattle.segment_reads.specs.Logs.{IsHeadRead, LogsThat, LogsWhere}
 use Rattle.segment_reads.specs.Reads.{Grown, ReadsPlanned}
-use Rattle.segment_head.specs.Stored.{HasImage}
+use Rattle.segment_head.specs.Stored.{HasImage, live}
+use Rattle.segment_head.specs.declared.stored.Stored.{Stored}
 use Rattle.table_store.specs.Segments.{AreFirstNames}
 use Rattle.table_store.specs.TableFile.{table_name}
 use Rattle.command_words.specs.Command.{Ask, Command, Listing}
@@ -29,19 +31,20 @@ abbrev pub ReadsHeads : Table → Files → List (List ℕ) → Option (List Ent
     → Type 0
 ReadsHeads table files names old new =
     LogsThat (λ entry. (entry.file ≡ table_name) ⊎ ((name : List ℕ) × Contains names name
-    × IsHeadRead table (Some files) name entry)) old new
+    × IsHeadRead table (Some files) (live name) entry)) old new
 
 -- where the files of these segments are images of rows: what was read of each has P
-abbrev pub ReadsEach : (List ℕ → List (List Value) → List Entry → Type 0) → Table → Files
+abbrev pub ReadsEach : (Stored → List (List Value) → List Entry → Type 0) → Table → Files
     → List (List ℕ) → Option (List Entry) → Option (List Entry) → Type 0
 ReadsEach P table files names old new = Grown (λ entries. (segments : List (List (List Value)))
-    → AllZip (HasImage table files) names segments
-    → (k : ℕ) → k < length names → P (get_or names k []) (ordered table.settings.sorted
+    → AllZip (HasImage table files) (map live names) segments
+    → (k : ℕ) → k < length names → P (live (get_or names k [])) (ordered table.settings.sorted
     (get_or segments k [])) entries) old new
 
 -- the table's file, or that of one of these segments
 abbrev pub IsFileAmong : List (List ℕ) → List ℕ → Type 0
-IsFileAmong names file = (file ≡ table_name) ⊎ IsFileOf names file
+IsFileAmong names file = (file ≡ table_name) ⊎ ((name : List ℕ) × Contains names name
+    × (file ≡ file_of name))
 
 -- for a text that asks a query each segment was read as the plan of its rows says, and at most so
 -- where it was not answered; for one that asks none over this table nothing was read but the

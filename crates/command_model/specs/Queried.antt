@@ -12,7 +12,7 @@ use Rattle.sql_reply.specs.declared.fault.SqlFault.{SqlFault}
 use Rattle.sql_reply.specs.declared.fault.SqlFault.TheVariants as fault
 use Rattle.query_executor.specs.Answers.{IsReply}
 use Rattle.query_executor.specs.Explained.{IsExplained, explained}
-use Rattle.segment_head.specs.Stored.{HasNoImage}
+use Rattle.segment_head.specs.Stored.{HasNoImage, live}
 use Rattle.query_executor.specs.Stated.{IsStated, stated}
 use Rattle.table_store.specs.Segments.{AreFirstNames, has_segment}
 use Rattle.table_store.specs.State.{Segment, Segments}
@@ -51,9 +51,9 @@ reply_about RowsAndPlans table sql segments = stated table sql (tree.keys segmen
 
 -- where the files of the segments of these names are images, a query's text is answered so
 abbrev pub HasReply : About → Table → Files → List (List ℕ) → List ℕ → SqlReply → Type 0
-HasReply Rows table files names sql reply = IsReply table files names sql reply
-HasReply Plans table files names sql reply = IsExplained table files names sql reply
-HasReply RowsAndPlans table files names sql reply = IsStated table files names sql reply
+HasReply Rows table files names sql reply = IsReply table files (map live names) sql reply
+HasReply Plans table files names sql reply = IsExplained table files (map live names) sql reply
+HasReply RowsAndPlans table files names sql reply = IsStated table files (map live names) sql reply
 
 -- a query has no reply over segments of these names: for its text, whatever the rows; or where
 -- their files are images, for the groups of all their rows
@@ -87,7 +87,7 @@ pub record IsWrongImage (files : Files) (name part : List ℕ) : Type 0 where
   pub table : Table
   pub table_is : HasTableFile files table
   pub there : has_segment files name ≡ true
-  pub no_image : HasNoImage table files name
+  pub no_image : HasNoImage table files (live name)
   pub wrong : Part
   pub part_is : part ≡ part_text table.schema.fields wrong
 

@@ -1,5 +1,5 @@
 -- What `list` did, by what its parts did.
-use Rattle.std.proofs.Common.{◌≡◌, ◌∙◌, ℕ, true, List, Option, Some, None, Result, Ok, Err, IfSome, refl, subst, inr}
+use Rattle.std.proofs.Common.{◌≡◌, ◌∙◌, ℕ, true, List, map, Option, Some, None, Result, Ok, Err, IfSome, refl, subst, inr}
 use Rattle.std.specs.List.{AllZip}
 use Rattle.outside.specs.Files.{Files}
 use Rattle.outside.specs.Seen.{OnlyReads, Seen}
@@ -22,6 +22,7 @@ use Rattle.command_words.specs.declared.stop.Stop.TheVariants as stop
 use Rattle.command_model.proofs.MachineLemmas.{steps_over}
 use Rattle.commands.proofs.ReadLemmas.{heads_read, stored_heads_after, stored_of, table_then}
 use Rattle.command_model.proofs.StoredLemmas.{same_found, told_all}
+use Rattle.segment_head.specs.Stored.{live}
 use Rattle.segment_reads.specs.Logs.{LogsHeadsOf}
 
 -- ---- what was found
@@ -41,12 +42,12 @@ listed_so (Some files) b c d table names counts text same next is has are rows =
     }
 
 -- the heads of the segments were read after looks for the table and for their names
-pub listed_heads : (a b c d : Seen) (table : Table) (names given : List (List ℕ)) → LooksFor HasTableFile TableRefuses TableFile a b (Ok table) → LooksFor AreFirstNames TableRefuses TableFile b c (Ok names) → given ≡ names → LogsHeadsOf table c.held given c.log d.log
+pub listed_heads : (a b c d : Seen) (table : Table) (names given : List (List ℕ)) → LooksFor HasTableFile TableRefuses TableFile a b (Ok table) → LooksFor AreFirstNames TableRefuses TableFile b c (Ok names) → given ≡ names → LogsHeadsOf table c.held (map live given) c.log d.log
     → ReadsStored ReadsHeads a.held a.log d.log
 listed_heads a b c d table names given first second same heads =
     let kept : c.held ≡ a.held = second.reads.held ∙ first.reads.held in
     let there = same_found a.held b.held c.held table names first.reads.held second.reads.held first.found second.found in
-    let own : LogsHeadsOf table c.held names c.log d.log = subst (λ ns. LogsHeadsOf table c.held ns c.log d.log) same heads in
+    let own : LogsHeadsOf table c.held (map live names) c.log d.log = subst (λ ns. LogsHeadsOf table c.held (map live ns) c.log d.log) same heads in
     subst (λ held. ReadsStored ReadsHeads held a.log d.log) kept
     (stored_heads_after c.held a.log c.log d.log (table_then a.log b.log c.log first.log second.log) (stored_of ReadsHeads c.held c.log d.log (heads_read table names c.held c.log d.log there own)))
 

@@ -1,5 +1,5 @@
 -- What `query` did, by what its parts did.
-use Rattle.std.proofs.Common.{◌≡◌, ◌≢◌, ◌<◌, ◌||◌, ◌⊎◌, ℕ, true, false, List, [], get_or, length, All, Option, Some, Result, Ok, Err, IfSome, IsErrAnd, IsErrOf, refl, ap, subst, sym, inl, inr}
+use Rattle.std.proofs.Common.{◌≡◌, ◌≢◌, ◌<◌, ◌||◌, ◌⊎◌, ℕ, true, false, List, [], get_or, length, map, All, Option, Some, Result, Ok, Err, IfSome, IsErrAnd, IsErrOf, refl, ap, subst, sym, inl, inr, arith}
 use Rattle.std.proofs.lemmas.List.Elements.{All-contains}
 use Rattle.outside.specs.Files.{Files}
 use Rattle.outside.specs.Reads.{Entry}
@@ -16,7 +16,9 @@ use Rattle.query_executor.specs.Explained.{lines_or}
 use Rattle.query_executor.specs.Lines.{in_order}
 use Rattle.segment_reads.specs.Logs.{IsFileOf, IsHeadRead, LogsHeadsOf, LogsOf}
 use Rattle.std.specs.List.{Contains}
-use Rattle.segment_head.specs.Stored.{HasNoImage}
+use Rattle.segment_head.specs.Stored.{HasNoImage, live, names_of, segment_at}
+use Rattle.segment_head.specs.declared.stored.Stored.{Stored}
+use Rattle.segment_reads.proofs.NameLemmas.{live_at, live_count}
 use Rattle.query_executor.specs.declared.fault.ExecutorFault.{ExecutorFault}
 use Rattle.query_executor.specs.declared.fault.ExecutorFault.TheVariants as executor
 use Rattle.table_store.specs.Segments.{AreFirstNames}
@@ -41,7 +43,7 @@ use Rattle.command_words.specs.declared.stop.Stop.{Stop}
 use Rattle.command_words.specs.declared.stop.Stop.TheVariants as stop
 use Rattle.commands.proofs.ListLemmas.{looked, none}
 use Rattle.command_model.proofs.MachineLemmas.{steps_over}
-use Rattle.commands.proofs.ReadLemmas.{has_after, stored_after, stored_table}
+use Rattle.commands.proofs.ReadLemmas.{has_after, live_file, stored_after, stored_table}
 use Rattle.command_model.proofs.StoredLemmas.{first_have, logs_then, more_opened, reads_as, reads_then, told_all, told_both, told_each, weaker}
 
 -- ---- looks before the query
@@ -108,27 +110,29 @@ query_handed about sql a b (Err s) why is l = subst (λ w. AnswersQuery about sq
 
 -- ---- the query
 
-store_file : (names : List (List ℕ)) (file : List ℕ) → All IsSegmentName names → IsFileOf names file → IsStoreFile file
-store_file names file named (name, among, is) = inr (name, All-contains IsSegmentName names name named among, is)
+store_file : (names : List (List ℕ)) (file : List ℕ) → All IsSegmentName names → IsFileOf (map live names) file → IsStoreFile file
+store_file names file named of =
+    let (name, among, is) = live_file names file of in
+    inr (name, All-contains IsSegmentName names name named among, is)
 
 -- reads of the heads of segments are of their files
-pub heads_of : (table : Table) (held : Option Files) (names : List (List ℕ)) (old new : Option (List Entry)) → LogsHeadsOf table held names old new → LogsOf names old new
-heads_of table held names old new (entries, is, each) =
-    (entries, is, weaker (λ entry. (name : List ℕ) × Contains names name × IsHeadRead table held name entry) (λ entry. IsFileOf names entry.file) entries (λ entry of. (of.0, of.1, of.2.file_is)) each)
+pub heads_of : (table : Table) (held : Option Files) (stored : List Stored) (old new : Option (List Entry)) → LogsHeadsOf table held stored old new → LogsOf stored old new
+heads_of table held stored old new (entries, is, each) =
+    (entries, is, weaker (λ entry. (segment : Stored) × Contains stored segment × IsHeadRead table held segment entry) (λ entry. IsFileOf stored entry.file) entries (λ entry of. (of.0, of.1, of.2.file_is)) each)
 
-names_opened : (names : List (List ℕ)) (old new : Option (List Entry)) → All IsSegmentName names → LogsOf names old new → LogsOpened StoreFiles old new
+names_opened : (names : List (List ℕ)) (old new : Option (List Entry)) → All IsSegmentName names → LogsOf (map live names) old new → LogsOpened StoreFiles old new
 names_opened names old new named (entries, is, each) =
-    (entries, is, weaker (λ entry. IsFileOf names entry.file) (λ entry. IsStoreFile entry.file) entries (λ entry of. store_file names entry.file named of) each)
+    (entries, is, weaker (λ entry. IsFileOf (map live names) entry.file) (λ entry. IsStoreFile entry.file) entries (λ entry of. store_file names entry.file named of) each)
 
 abbrev Unanswered : ExecutorFault → Result (List ℕ) ExecutorFault
 Unanswered f = Err f
 
-pub one_of : (names : List (List ℕ)) (f : ExecutorFault) → ((at : ℕ) (part : Part) → Unanswered f ≡ Unanswered (executor.NotASegment at part) → at < length names) → NamesOneOf names f
+pub one_of : (names : List (List ℕ)) (f : ExecutorFault) → ((at : ℕ) (part : Part) → Unanswered f ≡ Unanswered (executor.NotASegment at part) → at < length (map live names)) → NamesOneOf names f
 one_of names (executor.Sql wrong) h = tt
-one_of names (executor.NotASegment at part) h = h at part refl
+one_of names (executor.NotASegment at part) h = omega (arith, h at part refl, live_count names)
 one_of names executor.ReadFault h = tt
 
-module _ (about : About) (table : Table) (names : List (List ℕ)) (sql : List ℕ) (a b : Seen) (named : All IsSegmentName names) (there : IfSome a.held (λ files. HasTableFile files table × AreFirstNames files names)) (log : LogsOf names a.log b.log) (most : ReadsStored (ReadsAbout about sql false) a.held a.log b.log) where
+module _ (about : About) (table : Table) (names : List (List ℕ)) (sql : List ℕ) (a b : Seen) (named : All IsSegmentName names) (there : IfSome a.held (λ files. HasTableFile files table × AreFirstNames files names)) (log : LogsOf (map live names) a.log b.log) (most : ReadsStored (ReadsAbout about sql false) a.held a.log b.log) where
   abbrev Found : Files → Type 0
   Found files = HasTableFile files table × AreFirstNames files names
 
@@ -175,14 +179,14 @@ module _ (about : About) (table : Table) (names : List (List ℕ)) (sql : List �
 
   -- the file of a segment is no image
   no_image : {F : Type 0} (at : ℕ) (part : Part) (s : Stop) → IsSegmentStop (get_or names at []) table.schema.fields part s → OnlyReads F a b → ¬ F
-      → (at < length names) × IfSome a.held (λ files. HasNoImage table files (get_or names at [])) → AnswersQuery about sql a b (Err s)
+      → (at < length (map live names)) × IfSome a.held (λ files. HasNoImage table files (segment_at (map live names) at)) → AnswersQuery about sql a b (Err s)
   no_image at part s (inl is) reads fine bad =
       let line = note.NotASegment (get_or names at []) (part_text table.schema.fields part) in
       subst (λ w. AnswersQuery about sql a b (Err w)) (sym is)
       (stopped (stop.Refused line) reads (λ e. absurd cc) (λ e. absurd (fine e)) (
         refl,
-        told_both a.held Found (λ files. HasNoImage table files (get_or names at [])) (λ files. QueryRefuses about sql files line)
-            (λ files t none. inr (record { table = table; table_is = t.0; there = first_have files names t.1 at [] bad.0; no_image = none; wrong = part; part_is = refl })) there bad.1,
+        told_both a.held Found (λ files. HasNoImage table files (segment_at (map live names) at)) (λ files. QueryRefuses about sql files line)
+            (λ files t none. inr (record { table = table; table_is = t.0; there = first_have files names t.1 at [] (omega (arith, bad.0, live_count names)); no_image = subst (λ s. HasNoImage table files s) (live_at names at) none; wrong = part; part_is = refl })) there bad.1,
       ))
   no_image at part s (inr is) reads fine bad =
       subst (λ w. AnswersQuery about sql a b (Err w)) (sym is) (stopped (stop.Fault fault.Memory) reads (λ e. absurd cc) (λ e. absurd (fine e)) tt)
@@ -190,7 +194,7 @@ module _ (about : About) (table : Table) (names : List (List ℕ)) (sql : List �
   pub query_stopped : (f : ExecutorFault) (s : Stop) → IsQueryStop names table.schema.fields f s → OnlyReads (IsErrOf (Unanswered f) executor.ReadFault) a b
       → ((wrong : SqlFault) → Unanswered f ≡ Unanswered (executor.Sql wrong) → wrong ≢ query.NoMemory → IfSome a.held (λ files. HasReply about table files names sql (Err wrong)))
       → ((wrong : SqlFault) → Unanswered f ≡ Unanswered (executor.Sql wrong) → IsOfText wrong → asked table false sql ≡ Err wrong)
-      → ((at : ℕ) (part : Part) → Unanswered f ≡ Unanswered (executor.NotASegment at part) → (at < length names) × IfSome a.held (λ files. HasNoImage table files (get_or names at [])))
+      → ((at : ℕ) (part : Part) → Unanswered f ≡ Unanswered (executor.NotASegment at part) → (at < length (map live names)) × IfSome a.held (λ files. HasNoImage table files (segment_at (map live names) at)))
       → ((wrong : SqlFault) → Unanswered f ≡ Unanswered (executor.Sql wrong) → wrong ≢ query.NoMemory → IsOfText wrong ⊎ (makes_groups about ≡ true))
       → AnswersQuery about sql a b (Err s)
   query_stopped (executor.Sql wrong) s is reads reply by bad of = subst (λ w. AnswersQuery about sql a b (Err w)) (sym is) (faulty wrong reads (reply wrong refl) (by wrong refl) (of wrong refl))
@@ -200,7 +204,7 @@ module _ (about : About) (table : Table) (names : List (List ℕ)) (sql : List �
 -- what is wrong with a text is said of its plans
 pub plans_wrong : (table : Table) (names : List (List ℕ)) (sql : List ℕ) (held : Option Files) (wrong : SqlFault) → asked table false sql ≡ Err wrong → IfSome held (λ files. HasReply Plans table files names sql (Err wrong))
 plans_wrong table names sql held wrong is =
-    told_all held (λ files. HasReply Plans table files names sql (Err wrong)) (λ files segments images. ap (lines_or table names (in_order table segments)) is)
+    told_all held (λ files. HasReply Plans table files names sql (Err wrong)) (λ files segments images. ap (lines_or table (names_of (map live names)) (in_order table segments)) is)
 
 -- ---- the clause of the commands
 

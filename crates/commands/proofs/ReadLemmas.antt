@@ -1,5 +1,5 @@
 -- What is read of the segments of a store, by what its parts read.
-use Rattle.std.proofs.Common.{◌≡◌, ◌≢◌, ◌∙◌, ◌<◌, ◌+◌, ◌++◌, ◌⊎◌, ℕ, Bool, true, false, List, [], take, length, get_or, All, Option, Some, None, Result, Ok, Err, IfSome, inl, inr, refl, sym, ap, subst, arith, append-nil, length-take}
+use Rattle.std.proofs.Common.{◌≡◌, ◌≢◌, ◌∙◌, ◌<◌, ◌+◌, ◌++◌, ◌⊎◌, ℕ, Bool, true, false, List, [], take, length, map, get_or, All, Option, Some, None, Result, Ok, Err, IfSome, inl, inr, refl, sym, ap, subst, arith, append-nil, length-take}
 use Rattle.std.proofs.lemmas.Bool.{false≢true}
 use Rattle.std.proofs.lemmas.Cmp.{eq_by_cmp_equiv, nat_list_cmp_total}
 use Rattle.std.proofs.lemmas.List.{get_or-append-add, get_or-take, length-append}
@@ -22,8 +22,10 @@ use Rattle.sql_reply.specs.declared.fault.SqlFault.{SqlFault}
 use Rattle.star_answer.specs.DocLaws.{DocsAreBounded}
 use Rattle.segment_reads.specs.Logs.{IsFileOf, IsHeadRead, LogsHeadsOf, LogsOf, LogsWhere}
 use Rattle.segment_reads.specs.Reads.{AreApart, LogsEach, ReadsPlanned}
-use Rattle.segment_head.specs.Stored.{HasImage}
-use Rattle.segment_reads.proofs.GrownLemmas.{zip_at, IsOfFile, grown_so, grown_then}
+use Rattle.segment_head.specs.Stored.{HasImage, live}
+use Rattle.segment_head.specs.declared.stored.Stored.{Stored}
+use Rattle.segment_reads.proofs.GrownLemmas.{zip_at, IsOfFile, grown_so, grown_then, live_apart}
+use Rattle.segment_reads.proofs.NameLemmas.{live_among, live_at, live_count}
 use Rattle.segment_reads.proofs.LogLemmas.{entries_as, entries_then, same_log}
 use Rattle.segment_reads.proofs.SpanLemmas.{planned_less, planned_of_file}
 use Rattle.query_executor.proofs.Unread.{nothing_read}
@@ -58,8 +60,8 @@ one_first files a b (x, are_x, is_x) (y, are_y, is_y) =
     is_x ∙ ap (take most_segments) (same_names x y are_x.ascend are_y.ascend (λ q. are_x.those q ∙ sym (are_y.those q))) ∙ sym is_y
 
 -- no name comes twice among them
-first_apart : (files : Files) (names : List (List ℕ)) → AreFirstNames files names → AreApart names
-first_apart files names (all, are, is) = λ i k less lt same.
+first_apart : (files : Files) (names : List (List ℕ)) → AreFirstNames files names → AreApart (map live names)
+first_apart files names (all, are, is) = live_apart names (λ i k less lt same.
     let count : length names ≡ length (take most_segments all) = ap length is in
     let at_most = length-take most_segments all in
     let at_i : get_or names i [] ≡ get_or all i [] = ap (λ ns. get_or ns i []) is ∙ get_or-take most_segments all i [] (omega (arith, count, at_most)) in
@@ -67,7 +69,18 @@ first_apart files names (all, are, is) = λ i k less lt same.
     let names_same : get_or all i [] ≡ get_or all k [] = sym at_i ∙ same ∙ at_k in
     let test : eq_by_cmp name_order (get_or all i []) (get_or all k []) ≡ true =
     ap (eq_by_cmp name_order (get_or all i [])) (sym names_same) ∙ (eq_by_cmp_equiv nat_list_cmp_total).refl (get_or all i []) in
-    false≢true (sym (apart_from_distinct (eq_by_cmp name_order) all i k [] (IsDistinct-from_sorted name_order all are.ascend) less (omega (arith, count, at_most))) ∙ test)
+    false≢true (sym (apart_from_distinct (eq_by_cmp name_order) all i k [] (IsDistinct-from_sorted name_order all are.ascend) less (omega (arith, count, at_most))) ∙ test))
+
+-- what was read of published segments was read of some by their names
+pub live_file : (names : List (List ℕ)) (file : List ℕ) → IsFileOf (map live names) file → (name : List ℕ) × Contains names name × (file ≡ file_of name)
+live_file names file (segment, among, is) =
+    let (name, of, same) = live_among names segment among in
+    (name, of, is ∙ ap (λ (s : Stored). s.file) same)
+
+live_head : (table : Table) (held : Option Files) (names : List (List ℕ)) (entry : Entry) → (segment : Stored) × Contains (map live names) segment × IsHeadRead table held segment entry → (name : List ℕ) × Contains names name × IsHeadRead table held (live name) entry
+live_head table held names entry (segment, among, read) =
+    let (name, of, same) = live_among names segment among in
+    (name, of, subst (λ s. IsHeadRead table held s entry) same read)
 
 -- the table's file is no segment's
 pub not_table : (name : List ℕ) → file_of name ≢ table_name
@@ -96,30 +109,31 @@ others name x all = weaker (λ entry. entry.file ≡ table_name) (λ entry. entr
 module _ (table : Table) (files : Files) (names : List (List ℕ)) where
   pub table_heads : (a b : Option (List Entry)) → LogsOpened TableFile a b → ReadsHeads table files names a b
   table_heads a b log =
-      entries_as (λ entry. entry.file ≡ table_name) (λ entry. (entry.file ≡ table_name) ⊎ ((name : List ℕ) × Contains names name × IsHeadRead table (Some files) name entry)) a b (λ entry is. inl is) log
+      entries_as (λ entry. entry.file ≡ table_name) (λ entry. (entry.file ≡ table_name) ⊎ ((name : List ℕ) × Contains names name × IsHeadRead table (Some files) (live name) entry)) a b (λ entry is. inl is) log
 
   heads_after : (a b c : Option (List Entry)) → LogsOpened TableFile a b → ReadsHeads table files names b c → ReadsHeads table files names a c
   heads_after a b c first r =
-      entries_then (λ entry. (entry.file ≡ table_name) ⊎ ((name : List ℕ) × Contains names name × IsHeadRead table (Some files) name entry)) a b c (table_heads a b first) r
+      entries_then (λ entry. (entry.file ≡ table_name) ⊎ ((name : List ℕ) × Contains names name × IsHeadRead table (Some files) (live name) entry)) a b c (table_heads a b first) r
 
-  module _ (P : List ℕ → List (List Value) → List Entry → Type 0) (closed : IsOfFile P) where
+  module _ (P : Stored → List (List Value) → List Entry → Type 0) (closed : IsOfFile P) where
     abbrev Each : List Entry → Type 0
-    Each entries = (segments : List (List (List Value))) → AllZip (HasImage table files) names segments
-        → (k : ℕ) → k < length names → P (get_or names k []) (ordered table.settings.sorted (get_or segments k [])) entries
+    Each entries = (segments : List (List (List Value))) → AllZip (HasImage table files) (map live names) segments
+        → (k : ℕ) → k < length names → P (live (get_or names k [])) (ordered table.settings.sorted (get_or segments k [])) entries
 
     each_after : (a b c : Option (List Entry)) → LogsOpened TableFile a b → LogsWhere (IsFileAmong names) b c → ReadsEach P table files names b c → ReadsEach P table files names a c
     each_after a b c (x, made, all) (y, then, more) each =
         grown_then (λ l. All (λ entry. entry.file ≡ table_name) l) Each Each a b c x y made then (grown_so (λ l. All (λ entry. entry.file ≡ table_name) l) a b x made all) each
         (λ l m first told. λ segments images k lt.
-        closed.before (get_or names k []) (ordered table.settings.sorted (get_or segments k [])) l m (others (get_or names k []) l first) (told segments images k lt))
+        closed.before (live (get_or names k [])) (ordered table.settings.sorted (get_or segments k [])) l m (others (get_or names k []) l first) (told segments images k lt))
 
     -- what holds where nothing is read holds where the table's file is
-    each_table : (a b : Option (List Entry)) → LogsOpened TableFile a b → ((name : List ℕ) (rows : List (List Value)) → HasImage table files name rows → P name (ordered table.settings.sorted rows) []) → ReadsEach P table files names a b
+    each_table : (a b : Option (List Entry)) → LogsOpened TableFile a b → ((segment : Stored) (rows : List (List Value)) → HasImage table files segment rows → P segment (ordered table.settings.sorted rows) []) → ReadsEach P table files names a b
     each_table a b (x, made, all) nothing =
         grown_so Each a b x made (λ segments images k lt.
-        subst (P (get_or names k []) (ordered table.settings.sorted (get_or segments k []))) (append-nil x)
-        (closed.before (get_or names k []) (ordered table.settings.sorted (get_or segments k [])) x [] (others (get_or names k []) x all)
-        (nothing (get_or names k []) (get_or segments k []) (zip_at (HasImage table files) names segments k [] [] images lt))))
+        subst (P (live (get_or names k [])) (ordered table.settings.sorted (get_or segments k []))) (append-nil x)
+        (closed.before (live (get_or names k [])) (ordered table.settings.sorted (get_or segments k [])) x [] (others (get_or names k []) x all)
+        (nothing (live (get_or names k [])) (get_or segments k []) (subst (λ s. HasImage table files s (get_or segments k [])) (live_at names k)
+        (zip_at (HasImage table files) (map live names) segments k (live []) [] images (omega (arith, lt, live_count names)))))))
 
   table_among : (a b : Option (List Entry)) → LogsOpened TableFile a b → LogsWhere (IsFileAmong names) a b
   table_among a b log = entries_as (λ entry. entry.file ≡ table_name) (λ entry. IsFileAmong names entry.file) a b (λ entry is. inl is) log
@@ -148,7 +162,7 @@ module _ (table : Table) (files : Files) (names : List (List ℕ)) where
 
   asked_less : (r : Result BoundQuery SqlFault) (a b : Option (List Entry)) → ReadsAsked true table files names a b r → ReadsAsked false table files names a b r
   asked_less (Ok query) a b (log, each) =
-      (log, λ before entries was now segments images k lt. planned_less query table (get_or names k []) (ordered table.settings.sorted (get_or segments k [])) entries (each before entries was now segments images k lt))
+      (log, λ before entries was now segments images k lt. planned_less query table (live (get_or names k [])) (ordered table.settings.sorted (get_or segments k [])) entries (each before entries was now segments images k lt))
   asked_less (Err wrong) a b r = r
 
   about_less : (about : About) (sql : List ℕ) (a b : Option (List Entry)) → ReadsAbout about sql true table files names a b → ReadsAbout about sql false table files names a b
@@ -156,10 +170,14 @@ module _ (table : Table) (files : Files) (names : List (List ℕ)) where
   about_less Plans sql a b r = r
   about_less RowsAndPlans sql a b r = asked_less (asked table false sql) a b r
 
-  asked_so : (answered : Bool) (r : Result BoundQuery SqlFault) (a b : Option (List Entry)) → AreApart names → LogsOf names a b → ((query : BoundQuery) → r ≡ Ok query → LogsEach (ReadsPlanned query table answered) table (Some files) names (length names) a b)
+  asked_so : (answered : Bool) (r : Result BoundQuery SqlFault) (a b : Option (List Entry)) → AreApart (map live names) → LogsOf (map live names) a b → ((query : BoundQuery) → r ≡ Ok query → LogsEach (ReadsPlanned query table answered) table (Some files) (map live names) (length (map live names)) a b)
       → ((wrong : SqlFault) → r ≡ Err wrong → b ≡ a) → ReadsAsked answered table files names a b r
-  asked_so answered (Ok query) a b apart log reads none =
-      (entries_as (λ entry. IsFileOf names entry.file) (λ entry. IsFileAmong names entry.file) a b (λ entry of. inr of) log, λ before entries was now segments images k lt. reads query refl before entries was now segments images apart k lt)
+  asked_so answered (Ok query) a b apart log reads none = (
+    entries_as (λ entry. IsFileOf (map live names) entry.file) (λ entry. IsFileAmong names entry.file) a b (λ entry of. inr (live_file names entry.file of)) log,
+    λ before entries was now segments images k lt.
+        subst (λ s. ReadsPlanned query table answered s (ordered table.settings.sorted (get_or segments k [])) entries) (live_at names k)
+        (reads query refl before entries was now segments images apart k (omega (arith, lt, live_count names))),
+  )
   asked_so answered (Err wrong) a b apart log reads none = unread a b (none wrong refl)
 
 -- ---- of a store
@@ -209,8 +227,8 @@ stored_heads_after held a b c first r =
 
 module _ (table : Table) (names : List (List ℕ)) where
   -- for a text that is a query, or none
-  pub text_read : (answered : Bool) (held : Option Files) (sql : List ℕ) (a b : Seen) → IfSome held (λ files. HasTableFile files table × AreFirstNames files names) → LogsOf names a.log b.log
-      → ((query : BoundQuery) → asked table false sql ≡ Ok query → LogsEach (ReadsPlanned query table answered) table held names (length names) a.log b.log) → ((wrong : SqlFault) → asked table false sql ≡ Err wrong → b ≡ a)
+  pub text_read : (answered : Bool) (held : Option Files) (sql : List ℕ) (a b : Seen) → IfSome held (λ files. HasTableFile files table × AreFirstNames files names) → LogsOf (map live names) a.log b.log
+      → ((query : BoundQuery) → asked table false sql ≡ Ok query → LogsEach (ReadsPlanned query table answered) table held (map live names) (length (map live names)) a.log b.log) → ((wrong : SqlFault) → asked table false sql ≡ Err wrong → b ≡ a)
       → IfSome held (λ files. HasRead (ReadsAbout Rows sql answered) files a.log b.log)
   text_read answered None sql a b there log reads none = tt
   text_read answered (Some files) sql a b there log reads none = record {
@@ -221,13 +239,13 @@ module _ (table : Table) (names : List (List ℕ)) where
     reads = asked_so table files names answered (asked table false sql) a.log b.log (first_apart files names there.1) log reads (λ wrong is. ap (λ s. s.log) (none wrong is));
   }
 
-  pub heads_read : (held : Option Files) (a b : Option (List Entry)) → IfSome held (λ files. HasTableFile files table × AreFirstNames files names) → LogsHeadsOf table held names a b → IfSome held (λ files. HasRead ReadsHeads files a b)
+  pub heads_read : (held : Option Files) (a b : Option (List Entry)) → IfSome held (λ files. HasTableFile files table × AreFirstNames files names) → LogsHeadsOf table held (map live names) a b → IfSome held (λ files. HasRead ReadsHeads files a b)
   heads_read None a b there log = tt
   heads_read (Some files) a b there log = record {
     table = table;
     table_is = there.0;
     names = names;
     names_are = there.1;
-    reads = entries_as (λ entry. (name : List ℕ) × Contains names name × IsHeadRead table (Some files) name entry)
-        (λ entry. (entry.file ≡ table_name) ⊎ ((name : List ℕ) × Contains names name × IsHeadRead table (Some files) name entry)) a b (λ entry of. inr of) log;
+    reads = entries_as (λ entry. (segment : Stored) × Contains (map live names) segment × IsHeadRead table (Some files) segment entry)
+        (λ entry. (entry.file ≡ table_name) ⊎ ((name : List ℕ) × Contains names name × IsHeadRead table (Some files) (live name) entry)) a b (λ entry of. inr (live_head table (Some files) names entry of)) log;
   }

@@ -1,9 +1,10 @@
 //! The command `list`: the segments of a store, with how many rows each has.
-ghost use Rattle.std.specs.Prelude.{◌≡◌, ◌∷◌, [], ◌++◌, codes, length, true, Ok, Some, IfOk, IfSome, OnOk};
+ghost use Rattle.std.specs.Prelude.{◌≡◌, ◌∷◌, [], ◌++◌, codes, length, map, true, Ok, Some, IfOk, IfSome, OnOk};
 ghost use Rattle.std.specs.Fmt.{decimal};
 ghost use Rattle.std.specs.List.{All, AllZip};
 ghost use Rattle.outside.specs.Seen.{Seen, seen};
 ghost use Rattle.segment_file.specs.Names.{IsSegmentName};
+ghost use Rattle.segment_head.specs.Stored.{live};
 ghost use Rattle.segment_reads.specs.Logs.{LogsHeadOf, LogsHeadsOf};
 ghost use Rattle.table_schema.specs.ValidTable.{IsValidTable};
 ghost use Rattle.table_store.specs.Segments.{AreFirstNames, has_segment};
@@ -80,7 +81,7 @@ fn count_all<D: Depot>(
         × All (λ name. has_segment files name ≡ true) names.now) }
     ensures looks { LooksFor (λ files counts. AllZip (HasRows table.now files) names.now counts)
         SegmentsRefuse StoreFiles (seen D.Shelf depot.old) (seen D.Shelf depot.new) result }
-    ensures heads { LogsHeadsOf table.now (D.held depot.old) names.now
+    ensures heads { LogsHeadsOf table.now (D.held depot.old) (map live names.now)
         (D.log depot.old) (D.log depot.new) }
     ensures each { IfOk result (λ counts. length counts ≡ length names.now) }
 {
@@ -113,7 +114,7 @@ fn count_rows<D: Depot>(
         × (has_segment files name.now ≡ true)) }
     ensures looks { LooksFor (λ files rows. HasRows table.now files name.now rows) SegmentsRefuse
         StoreFiles (seen D.Shelf depot.old) (seen D.Shelf depot.new) result }
-    ensures heads { LogsHeadOf table.now (D.held depot.old) name.now
+    ensures heads { LogsHeadOf table.now (D.held depot.old) (live name.now)
         (D.log depot.old) (D.log depot.new) }
 {
     let file = segment_file_name(alloc, name)?;

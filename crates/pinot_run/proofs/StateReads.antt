@@ -8,7 +8,7 @@ use Rattle.std.proofs.lemmas.List.Folds.{list_any_at}
 use Rattle.std.specs.FinMap as map
 use Rattle.std.specs.List.{AllZip, Contains, list_any}
 use Rattle.std.specs.Ordering.{eq_by_cmp}
-use Rattle.std.specs.Prelude.{is_some}
+use Rattle.std.specs.Prelude.{is_some, map as each}
 use Rattle.outside.specs.Files.{Files, name_order}
 use Rattle.outside.specs.Reads.{Entry, read_by, read_in}
 use Rattle.outside.proofs.ReadLemmas.{read_by-apart, read_by-other, read_in-cons}
@@ -24,7 +24,8 @@ use Rattle.sql_reply.specs.Asked.{asked}
 use Rattle.sql_reply.specs.declared.fault.SqlFault.{SqlFault}
 use Rattle.segment_reads.specs.Logs.{EndsBy, IsHeadRead, LogsWhere}
 use Rattle.segment_reads.specs.Reads.{Grown, ReadsNone, ReadsPlanned, raw_span, star_span}
-use Rattle.segment_head.specs.Stored.{HasImage}
+use Rattle.segment_head.specs.Stored.{HasImage, live}
+use Rattle.segment_head.specs.declared.stored.Stored.{Stored}
 use Rattle.segment_reads.proofs.GrownLemmas.{grown_so, same_name}
 use Rattle.segment_reads.proofs.HeadReads.{opened_entry}
 use Rattle.segment_reads.proofs.LogLemmas.{entries_as, fewer_summed}
@@ -118,7 +119,7 @@ module _ (stored : Files) (texts : state.Texts) (segments : Segments) (stands : 
 
   -- the rows whose images the files of segments are, in their order
   images : (names : List (List ℕ)) → ((k : ℕ) → k < length names → has_segment stored (get_or names k []) ≡ true)
-      → (rows : List (List (List Value))) × AllZip (HasImage table stored) names rows × ((k : ℕ) → k < length names → ordered table.settings.sorted (get_or rows k []) ≡ rows_in (map.get segments (get_or names k [])))
+      → (rows : List (List (List Value))) × AllZip (HasImage table stored) (each live names) rows × ((k : ℕ) → k < length names → ordered table.settings.sorted (get_or rows k []) ≡ rows_in (map.get segments (get_or names k [])))
   images [] there = ([], tt, λ k lt. absurd (omega (arith, lt)))
   images (name ∷ names) there =
       let (first, has, is) = came stored texts segments stands table accepted name (there 0 (omega arith)) in
@@ -134,31 +135,31 @@ module _ (stored : Files) (texts : state.Texts) (segments : Segments) (stands : 
   module _ (a b : Option (List Entry)) where
     -- ---- of each segment
 
-    each_of : (P : List ℕ → List (List Value) → List Entry → Type 0) → ReadsEach P table stored (map.keys segments) a b → (name : List ℕ) (segment : Segment) → map.get segments name ≡ Some segment → Grown (P name segment.rows) a b
+    each_of : (P : Stored → List (List Value) → List Entry → Type 0) → ReadsEach P table stored (map.keys segments) a b → (name : List ℕ) (segment : Segment) → map.get segments name ≡ Some segment → Grown (P (live name) segment.rows) a b
     each_of P each name segment got = λ before entries was now.
         let (rows, have, are) = images (map.keys segments) (key_there stored texts segments stands) in
         let (k, lt, at) = place_of name (map.keys segments) (sym (map.contains_key-keys segments name) ∙ ap is_some got) in
         let own : ordered table.settings.sorted (get_or rows k []) ≡ segment.rows = are k lt ∙ ap (λ n. rows_in (map.get segments n)) at ∙ ap rows_in got in
-        subst (λ n. P n segment.rows entries) at (subst (λ rs. P (get_or (map.keys segments) k []) rs entries) own (each before entries was now rows have k lt))
+        subst (λ n. P (live n) segment.rows entries) at (subst (λ rs. P (live (get_or (map.keys segments) k [])) rs entries) own (each before entries was now rows have k lt))
 
     -- a read of the head of some segment is of another file than a segment's, or within its head
-    head_or_other : (name : List ℕ) (rows : List (List Value)) → IsSegmentName name → HasImage table stored name rows → (entry : Entry) → (entry.file ≡ table_name) ⊎ ((other : List ℕ) × Contains (map.keys segments) other × IsHeadRead table (Some stored) other entry)
+    head_or_other : (name : List ℕ) (rows : List (List Value)) → IsSegmentName name → HasImage table stored (live name) rows → (entry : Entry) → (entry.file ≡ table_name) ⊎ ((other : List ℕ) × Contains (map.keys segments) other × IsHeadRead table (Some stored) (live other) entry)
         → (entry.file ≢ file_of name) ⊎ EndsBy (file_of name) (head_end table name (front_of 1 table (ordered table.settings.sorted rows))) entry
     head_or_other name rows named has entry (inl is) = inl (λ same. not_table name (sym same ∙ is))
     head_or_other name rows named has entry (inr (other, among, read)) = by (is_name other name)
       where
         by : (other ≡ name) ⊎ (other ≢ name) → (entry.file ≢ file_of name) ⊎ EndsBy (file_of name) (head_end table name (front_of 1 table (ordered table.settings.sorted rows))) entry
-        by (inl same) = inr (opened_entry table stored name rows (accepted_valid texts table accepted) named has entry (subst (λ n. IsHeadRead table (Some stored) n entry) same read))
+        by (inl same) = inr (opened_entry table stored (live name) rows (accepted_valid texts table accepted) named has entry (subst (λ n. IsHeadRead table (Some stored) (live n) entry) same read))
         by (inr apart) = inl (λ same. apart (same_name other name (sym read.file_is ∙ same)))
 
-    heads_none : ReadsHeads table stored (map.keys segments) a b → (name : List ℕ) (segment : Segment) → map.get segments name ≡ Some segment → Grown (ReadsNone table name segment.rows) a b
+    heads_none : ReadsHeads table stored (map.keys segments) a b → (name : List ℕ) (segment : Segment) → map.get segments name ≡ Some segment → Grown (ReadsNone table (live name) segment.rows) a b
     heads_none (x, made, all) name segment got =
         let (rows, has, is) = came stored texts segments stands table accepted name (key_named stored texts segments stands name (map.get segments name) refl (ap is_some got)) in
         let os : List (List Value) = ordered table.settings.sorted rows in
         let own : os ≡ segment.rows = is ∙ ap rows_in got in
         let each = λ (k : ℕ) (d : Entry) (lt : k < length x). head_or_other name rows (stands.valid.named name segment got) has (get_or x k d) (all k d lt) in
-        subst (λ rs. Grown (ReadsNone table name rs) a b) own
-        (grown_so (ReadsNone table name os) a b x made (record {
+        subst (λ rs. Grown (ReadsNone table (live name) rs) a b) own
+        (grown_so (ReadsNone table (live name) os) a b x made (record {
           raw = none_within (file_of name) (head_end table name (front_of 1 table os)) (raw_span table name os).from (raw_span table name os).to x (omega arith) each;
           stars = λ t.
               let less = fewer_summed (front_of 1 table os).sizes (length (head_sections table)) (length (head_sections table) + length (raw_sections table) + t) (omega arith) in
@@ -180,15 +181,15 @@ module _ (stored : Files) (texts : state.Texts) (segments : Segments) (stands : 
 
     heads_among : ReadsHeads table stored (map.keys segments) a b → LogsWhere (IsFileAmong (map.keys segments)) a b
     heads_among log =
-        entries_as (λ entry. (entry.file ≡ table_name) ⊎ ((name : List ℕ) × Contains (map.keys segments) name × IsHeadRead table (Some stored) name entry)) (λ entry. IsFileAmong (map.keys segments) entry.file) a b (λ entry of. by entry of) log
+        entries_as (λ entry. (entry.file ≡ table_name) ⊎ ((name : List ℕ) × Contains (map.keys segments) name × IsHeadRead table (Some stored) (live name) entry)) (λ entry. IsFileAmong (map.keys segments) entry.file) a b (λ entry of. by entry of) log
       where
-        by : (entry : Entry) → (entry.file ≡ table_name) ⊎ ((name : List ℕ) × Contains (map.keys segments) name × IsHeadRead table (Some stored) name entry) → IsFileAmong (map.keys segments) entry.file
+        by : (entry : Entry) → (entry.file ≡ table_name) ⊎ ((name : List ℕ) × Contains (map.keys segments) name × IsHeadRead table (Some stored) (live name) entry) → IsFileAmong (map.keys segments) entry.file
         by entry (inl is) = inl is
         by entry (inr (name, among, read)) = inr (name, among, read.file_is)
 
     -- ---- by a command
 
-    none_read : (command : Option Command) (done : Bool) → ((name : List ℕ) (rows : List (List Value)) (entries : List Entry) → ReadsNone table name rows entries → ReadsSegment command done table name rows entries)
+    none_read : (command : Option Command) (done : Bool) → ((name : List ℕ) (rows : List (List Value)) (entries : List Entry) → ReadsNone table (live name) rows entries → ReadsSegment command done table name rows entries)
         → ReadsHeads table stored (map.keys segments) a b → ReadsState command done table segments a b
     none_read command done to heads = record {
       files = among_live (heads_among heads);
@@ -210,7 +211,7 @@ module _ (stored : Files) (texts : state.Texts) (segments : Segments) (stands : 
     about_state Plans sql done r = none_read (Some (Ask Plans sql)) done (λ name rows entries h. h) r
     about_state RowsAndPlans sql done r = for_text RowsAndPlans sql done (λ name rows entries h. h) (asked table false sql) refl r
 
-    table_state : (command : Option Command) (done : Bool) → ((name : List ℕ) (rows : List (List Value)) (entries : List Entry) → ReadsNone table name rows entries → ReadsSegment command done table name rows entries) → LogsOpened TableFile a b
+    table_state : (command : Option Command) (done : Bool) → ((name : List ℕ) (rows : List (List Value)) (entries : List Entry) → ReadsNone table (live name) rows entries → ReadsSegment command done table name rows entries) → LogsOpened TableFile a b
         → ReadsState command done table segments a b
     table_state command done to log = none_read command done to (table_heads table stored (map.keys segments) a b log)
 

@@ -10,6 +10,7 @@ use Rattle.table_schema.specs.declared.table.Table.{Table}
 use Rattle.segment_file.specs.Names.{file_of}
 use Rattle.sql_reply.specs.Asked.{asked}
 use Rattle.sql_reply.specs.declared.fault.SqlFault.{SqlFault}
+use Rattle.segment_head.specs.Stored.{live}
 use Rattle.segment_reads.specs.Logs.{LogsWhere}
 use Rattle.segment_reads.specs.Reads.{Grown, ReadsNone, ReadsPlanned}
 use Rattle.table_store.specs.Accepted.{IsAccepted}
@@ -46,8 +47,9 @@ is_done other = false
 -- and where it asks no query nothing after the head
 abbrev pub ReadsFor : Result BoundQuery SqlFault → Bool → Table → List ℕ → List (List Value)
     → List Entry → Type 0
-ReadsFor (Ok query) done table name rows entries = ReadsPlanned query table done name rows entries
-ReadsFor (Err wrong) done table name rows entries = ReadsNone table name rows entries
+ReadsFor (Ok query) done table name rows entries = ReadsPlanned query table done (live name) rows
+    entries
+ReadsFor (Err wrong) done table name rows entries = ReadsNone table (live name) rows entries
 
 -- by a command: `query` and `stats` read for their text, and the others nothing after the head
 abbrev pub ReadsSegment : Option Command → Bool → Table → List ℕ → List (List Value) → List Entry
@@ -56,7 +58,7 @@ ReadsSegment (Some (Ask Rows sql)) done table name rows entries = ReadsFor
     (asked table false sql) done table name rows entries
 ReadsSegment (Some (Ask RowsAndPlans sql)) done table name rows entries = ReadsFor
     (asked table false sql) done table name rows entries
-ReadsSegment command done table name rows entries = ReadsNone table name rows entries
+ReadsSegment command done table name rows entries = ReadsNone table (live name) rows entries
 
 -- the table's file, or that of a segment that there is
 abbrev pub IsLiveFile : Segments → List ℕ → Type 0

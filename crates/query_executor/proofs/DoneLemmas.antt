@@ -22,16 +22,17 @@ use Rattle.query_executor.specs.Lines.{line_by, stats_line, stats_text}
 use Rattle.segment_reads.specs.Looked.{docs_by, IsDoneIn}
 use Rattle.query_executor.specs.Steps.{AddsLine}
 use Rattle.segment_opening.specs.Opened.{IsHeadIn}
+use Rattle.segment_head.specs.declared.stored.Stored.{Stored}
 
 module _ (query : BoundQuery) (table : Table) where
   -- where files are told, on the image of rows so many documents are looked at by this plan
   abbrev AreLookedAt : Option Files → Seen → SegmentPlan → ℕ → Type 0
   AreLookedAt held head plan docs = IfSome held (λ files. (rows : List (List Value)) → IsOfImage table files rows head → docs ≡ docs_by query table (ordered table.settings.sorted rows) plan)
 
-  pub done_so : HeadTells → PlanIsOver → IsValidTable table → IsValidQuery table query → (held : Option Files) (name : List ℕ) (head : Seen) (plan : SegmentPlan) (docs : ℕ) → plan ≡ plan_of query table head → IsPlannable query head → AreLookedAt held head plan docs
-      → IsHeadIn table held name head → IsDoneIn query table held name plan docs
-  done_so tells_law law valid query_valid None name head plan docs plan_is known looked is = tt
-  done_so tells_law law valid query_valid (Some files) name head plan docs plan_is known looked is = λ rows has.
+  pub done_so : HeadTells → PlanIsOver → IsValidTable table → IsValidQuery table query → (held : Option Files) (segment : Stored) (head : Seen) (plan : SegmentPlan) (docs : ℕ) → plan ≡ plan_of query table head → IsPlannable query head → AreLookedAt held head plan docs
+      → IsHeadIn table held segment head → IsDoneIn query table held segment plan docs
+  done_so tells_law law valid query_valid None segment head plan docs plan_is known looked is = tt
+  done_so tells_law law valid query_valid (Some files) segment head plan docs plan_is known looked is = λ rows has.
       let i = is rows has in
       let os : List (List Value) = ordered table.settings.sorted rows in
       let tells = tells_law table i.name i.file rows i.whole head valid i.named i.can i.is_head i.part in
@@ -45,10 +46,10 @@ module _ (query : BoundQuery) (table : Table) where
       let os : List (List Value) = ordered table.settings.sorted rows in
       zero ∙ sym (none os) ∙ ap (docs_by query table os) (sym is)
 
-  pub none_done : HeadTells → PlanIsOver → IsValidTable table → IsValidQuery table query → (held : Option Files) (name : List ℕ) (head : Seen) (plan known : SegmentPlan) (docs : ℕ) → plan ≡ known → known ≡ plan_of query table head → IsPlannable query head
-      → ((rows : List (List Value)) → docs_by query table rows known ≡ 0) → docs ≡ 0 → IsHeadIn table held name head → IsDoneIn query table held name plan docs
-  none_done tells_law law valid query_valid held name head plan known docs is planned plannable none zero image =
-      done_so tells_law law valid query_valid held name head plan docs (is ∙ planned) plannable (none_looked held head plan known docs is none zero) image
+  pub none_done : HeadTells → PlanIsOver → IsValidTable table → IsValidQuery table query → (held : Option Files) (segment : Stored) (head : Seen) (plan known : SegmentPlan) (docs : ℕ) → plan ≡ known → known ≡ plan_of query table head → IsPlannable query head
+      → ((rows : List (List Value)) → docs_by query table rows known ≡ 0) → docs ≡ 0 → IsHeadIn table held segment head → IsDoneIn query table held segment plan docs
+  none_done tells_law law valid query_valid held segment head plan known docs is planned plannable none zero image =
+      done_so tells_law law valid query_valid held segment head plan docs (is ∙ planned) plannable (none_looked held head plan known docs is none zero) image
 
   -- those that the indexes leave, by a scan
   pub scan_looked : (held : Option Files) (head : Seen) (plan : ScanPlan) (docs : ℕ) → plan.choices ≡ choices_for query table head → AreDocs query table held head docs → AreLookedAt held head (Scan plan) docs
@@ -64,8 +65,8 @@ module _ (query : BoundQuery) (table : Table) where
   tree_looked (Some files) head tree docs are = are
 
   -- its line is that of the rows
-  pub stats_added : (held : Option Files) (name : List ℕ) (plan : SegmentPlan) (docs : ℕ) (old new : List ℕ) → IsDoneIn query table held name plan docs → new ≡ old ++ line_by name (stats_text plan docs) → AddsLine (stats_line query table) table held name old new
-  stats_added None name plan docs old new done is = tt
-  stats_added (Some files) name plan docs old new done is = λ rows has.
+  pub stats_added : (held : Option Files) (segment : Stored) (plan : SegmentPlan) (docs : ℕ) (old new : List ℕ) → IsDoneIn query table held segment plan docs → new ≡ old ++ line_by segment.name (stats_text plan docs) → AddsLine (stats_line query table) table held segment old new
+  stats_added None segment plan docs old new done is = tt
+  stats_added (Some files) segment plan docs old new done is = λ rows has.
       let (plan_is, docs_are) = done rows has in
-      is ∙ (λ i. old ++ line_by name (stats_text (plan_is i) (docs_are i)))
+      is ∙ (λ i. old ++ line_by segment.name (stats_text (plan_is i) (docs_are i)))

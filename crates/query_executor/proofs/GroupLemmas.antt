@@ -19,9 +19,10 @@ use Rattle.scan_engine.specs.Scanned.{selected}
 use Rattle.scan_engine.proofs.AddLemmas.{len_more}
 use Rattle.segment_file.specs.Ordered.{ordered}
 use Rattle.sql_reply.specs.Reply.{most_groups}
-use Rattle.segment_head.specs.Stored.{HasImage, stored_rows}
+use Rattle.segment_head.specs.Stored.{HasImage, live, segment_at, stored_rows}
 use Rattle.query_executor.specs.Steps.{AddsGroups, AddsStored, HasGroups, HaveTooMany, IsStoredOverfull, selected_in}
 use Rattle.segment_reads.proofs.GrownLemmas.{zip_at}
+use Rattle.segment_head.specs.declared.stored.Stored.{Stored}
 
 module _ (query : BoundQuery) (table : Table) where
   abbrev here : List (List Value) → List (List Value)
@@ -46,32 +47,32 @@ module _ (query : BoundQuery) (table : Table) where
       → selected query (stored_rows table (take k segments)) ++ selected_in query table (get_or segments k []) ≡ selected query (stored_rows table (take (k + 1) segments))
   selected_more segments k lt = both_selected (stored_rows table (take k segments)) (here (get_or segments k [])) ∙ ap (selected query) (stored_more segments k lt)
 
-  module _ (names : List (List ℕ)) where
-    pub no_groups : (held : Option Files) (groups : KeptGroups) → IsNew query most_groups groups → HasGroups query table held names 0 groups
+  module _ (stored : List Stored) where
+    pub no_groups : (held : Option Files) (groups : KeptGroups) → IsNew query most_groups groups → HasGroups query table held stored 0 groups
     no_groups None groups new = tt
     no_groups (Some files) groups new = λ segments all. new.groups_are
 
-    pub one_more : (held : Option Files) (k : ℕ) (old new : KeptGroups) → k < length names → HasGroups query table held names k old → AddsStored query table held (get_or names k []) old new → HasGroups query table held names (k + 1) new
+    pub one_more : (held : Option Files) (k : ℕ) (old new : KeptGroups) → k < length stored → HasGroups query table held stored k old → AddsStored query table held (segment_at stored k) old new → HasGroups query table held stored (k + 1) new
     one_more held k old new lt so a = by held so a.told
       where
-        by : (h : Option Files) → HasGroups query table h names k old → IfSome h (λ files. (rows : List (List Value)) → HasImage table files (get_or names k []) rows → AddsGroups query (selected_in query table rows) old new)
-            → HasGroups query table h names (k + 1) new
+        by : (h : Option Files) → HasGroups query table h stored k old → IfSome h (λ files. (rows : List (List Value)) → HasImage table files (segment_at stored k) rows → AddsGroups query (selected_in query table rows) old new)
+            → HasGroups query table h stored (k + 1) new
         by None so told = tt
         by (Some files) so told = λ segments all.
-            let at_most : k < length segments = omega (arith, lt, AllZip-long (HasImage table files) names segments all) in
-            let adds = told (get_or segments k []) (zip_at (HasImage table files) names segments k [] [] all lt) in
+            let at_most : k < length segments = omega (arith, lt, AllZip-long (HasImage table files) stored segments all) in
+            let adds = told (get_or segments k []) (zip_at (HasImage table files) stored segments k (live []) [] all lt) in
             adds (selected query (stored_rows table (take k segments))) (so segments all)
             ∙ ap (groups_of (shape_of query)) (selected_more segments k at_most)
 
-    pub too_many : (held : Option Files) (k : ℕ) (old : KeptGroups) → k < length names → old.most ≡ most_groups → HasGroups query table held names k old → IsStoredOverfull query table held (get_or names k []) old
-        → HaveTooMany query table held names most_groups
+    pub too_many : (held : Option Files) (k : ℕ) (old : KeptGroups) → k < length stored → old.most ≡ most_groups → HasGroups query table held stored k old → IsStoredOverfull query table held (segment_at stored k) old
+        → HaveTooMany query table held stored most_groups
     too_many None k old lt most so over = tt
     too_many (Some files) k old lt most so over = λ segments all.
-        let at_most : k < length segments = omega (arith, lt, AllZip-long (HasImage table files) names segments all) in
+        let at_most : k < length segments = omega (arith, lt, AllZip-long (HasImage table files) stored segments all) in
         let done : List (List Value) = selected query (stored_rows table (take k segments)) in
         let now : List (List Value) = selected_in query table (get_or segments k []) in
         let rest : List (List Value) = selected query (stored_rows table (drop (k + 1) segments)) in
-        let full : old.most < finite.len (groups_of (shape_of query) (done ++ now)) = over (get_or segments k []) (zip_at (HasImage table files) names segments k [] [] all lt) done (so segments all) in
+        let full : old.most < finite.len (groups_of (shape_of query) (done ++ now)) = over (get_or segments k []) (zip_at (HasImage table files) stored segments k (live []) [] all lt) done (so segments all) in
         let more = len_more (shape_of query) (done ++ now) rest in
         let same : (done ++ now) ++ rest ≡ selected query (stored_rows table segments) =
         ap (λ l. l ++ rest) (selected_more segments k at_most)

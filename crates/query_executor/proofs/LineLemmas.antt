@@ -16,9 +16,10 @@ use Rattle.segment_plan.specs.declared.plans.SegmentPlan.{SegmentPlan}
 use Rattle.segment_plan.specs.Explained.{IsDetailed, explained_by, explained_over}
 use Rattle.segment_plan.specs.Laws.{ExplainedIsOver, HeadTells}
 use Rattle.query_executor.specs.Lines.{in_order, line_by, lines_of, plan_line}
-use Rattle.segment_head.specs.Stored.{HasImage}
+use Rattle.segment_head.specs.Stored.{HasImage, live, names_of, segment_at}
 use Rattle.query_executor.specs.Steps.{AddsLine, HasLines, IsPlannedIn}
 use Rattle.segment_reads.proofs.GrownLemmas.{zip_at}
+use Rattle.segment_head.specs.declared.stored.Stored.{Stored}
 
 -- a line is added part by part
 pub line_pushed : (old name said a b c d : List ℕ) → a ≡ old ++ name → b ≡ a ++ (44 ∷ []) → c ≡ b ++ said → d ≡ c ++ (10 ∷ []) → d ≡ old ++ line_by name said
@@ -34,15 +35,15 @@ pair_pushed old first second a b c is_a is_b is_c =
 
 module _ (query : BoundQuery) (table : Table) where
   -- what is said of the plan of a segment is what is said over its rows
-  pub line_added : HeadTells → ExplainedIsOver → IsValidTable table → IsValidQuery table query → (held : Option Files) (name : List ℕ) (head : Seen) (plan : SegmentPlan) (old new : List ℕ)
-      → IsPlannedIn query table held name head plan → new ≡ old ++ line_by name (explained_by query table head) → AddsLine (plan_line query table) table held name old new
-  line_added tells_law law valid query_valid None name head plan old new planned is = tt
-  line_added tells_law law valid query_valid (Some files) name head plan old new planned is = λ rows has.
+  pub line_added : HeadTells → ExplainedIsOver → IsValidTable table → IsValidQuery table query → (held : Option Files) (segment : Stored) (head : Seen) (plan : SegmentPlan) (old new : List ℕ)
+      → IsPlannedIn query table held segment head plan → new ≡ old ++ line_by segment.name (explained_by query table head) → AddsLine (plan_line query table) table held segment old new
+  line_added tells_law law valid query_valid None segment head plan old new planned is = tt
+  line_added tells_law law valid query_valid (Some files) segment head plan old new planned is = λ rows has.
       let i = planned.image rows has in
       let os : List (List Value) = ordered table.settings.sorted rows in
       let tells = tells_law table i.name i.file rows i.whole head valid i.named i.can i.is_head i.part in
       let same : explained_by query table head ≡ explained_over query table os = law query table os head valid query_valid tells planned.known (subst (IsDetailed query table head) planned.plan_is planned.detailed) in
-      is ∙ ap (λ said. old ++ line_by name said) same
+      is ∙ ap (λ said. old ++ line_by segment.name said) same
 
 module _ (line : List ℕ → List (List Value) → List ℕ) (table : Table) where
   -- the lines from one segment on begin with its own
@@ -60,26 +61,26 @@ module _ (line : List ℕ → List (List Value) → List ℕ) (table : Table) wh
       ∙ ap (λ n. here (get_or segments k []) ∷ drop n rows) (sym (add-one k)) in
       (λ i. lines_of line (first i) (second i))
 
-  module _ (names : List (List ℕ)) where
-    pub no_lines : (held : Option Files) → HasLines line table held names 0 []
+  module _ (stored : List Stored) where
+    pub no_lines : (held : Option Files) → HasLines line table held stored 0 []
     no_lines None = tt
     no_lines (Some files) = λ segments all. refl
 
-    pub lines_more : (held : Option Files) (k : ℕ) (old new : List ℕ) → k < length names → HasLines line table held names k old → AddsLine line table held (get_or names k []) old new → HasLines line table held names (k + 1) new
+    pub lines_more : (held : Option Files) (k : ℕ) (old new : List ℕ) → k < length stored → HasLines line table held stored k old → AddsLine line table held (segment_at stored k) old new → HasLines line table held stored (k + 1) new
     lines_more None k old new lt so adds = tt
     lines_more (Some files) k old new lt so adds = λ segments all.
-        let at_most : k < length segments = omega (arith, lt, AllZip-long (HasImage table files) names segments all) in
+        let at_most : k < length segments = omega (arith, lt, AllZip-long (HasImage table files) stored segments all) in
         let rows : List (List Value) = get_or segments k [] in
-        let own : List ℕ = line (get_or names k []) (ordered table.settings.sorted rows) in
-        let rest : List ℕ = lines_of line (drop (k + 1) names) (drop (k + 1) (in_order table segments)) in
-        let added : new ≡ old ++ own = adds rows (zip_at (HasImage table files) names segments k [] [] all lt) in
+        let own : List ℕ = line (segment_at stored k).name (ordered table.settings.sorted rows) in
+        let rest : List ℕ = lines_of line (drop (k + 1) (names_of stored)) (drop (k + 1) (in_order table segments)) in
+        let added : new ≡ old ++ own = adds rows (zip_at (HasImage table files) stored segments k (live []) [] all lt) in
         ap (λ l. l ++ rest) added
         ∙ append_assoc old own rest
-        ∙ ap (λ l. old ++ l) (sym (next_line names segments k lt at_most))
+        ∙ ap (λ l. old ++ l) (sym (next_line stored segments k lt at_most))
         ∙ so segments all
 
-    pub lines_all : (files : Files) (text : List ℕ) → HasLines line table (Some files) names (length names) text → (segments : List (List (List Value))) → AllZip (HasImage table files) names segments → lines_of line names (in_order table segments) ≡ text
+    pub lines_all : (files : Files) (text : List ℕ) → HasLines line table (Some files) stored (length stored) text → (segments : List (List (List Value))) → AllZip (HasImage table files) stored segments → lines_of line stored (in_order table segments) ≡ text
     lines_all files text so segments all =
-        let none : lines_of line (drop (length names) names) (drop (length names) (in_order table segments)) ≡ [] =
-        ap (λ l. lines_of line l (drop (length names) (in_order table segments))) (drop-length names) in
+        let none : lines_of line (drop (length stored) stored) (drop (length stored) (in_order table segments)) ≡ [] =
+        ap (λ l. lines_of line l (drop (length stored) (in_order table segments))) (drop-length stored) in
         sym (so segments all) ∙ ap (λ l. text ++ l) none ∙ append-nil text

@@ -10,7 +10,7 @@ use Rattle.table_schema.specs.declared.table.Table.{Table}
 use Rattle.table_schema.specs.ValidTable.{IsValidTable}
 use Rattle.segment_head.specs.Heads.{AreIn, IsHeadOf, Seen}
 use Rattle.segment_file.specs.Image.{front_of}
-use Rattle.segment_file.specs.Names.{IsSegmentName, file_of}
+use Rattle.segment_file.specs.Names.{IsSegmentName}
 use Rattle.segment_file.specs.Ordered.{ordered}
 use Rattle.segment_plan.specs.Laws.{TellsOf}
 use Rattle.segment_plan.specs.declared.plans.ScanPlan.{ScanPlan}
@@ -33,117 +33,118 @@ use Rattle.segment_reads.proofs.PartLogs.{at_place}
 use Rattle.segment_scan.proofs.ScanReads.{image_scan, image_scan_partly}
 use Rattle.segment_reads.proofs.SpanLemmas.{planned_less}
 use Rattle.star_answer.proofs.TreeReads.{answer_reads, answer_reads_partly, planned_head}
+use Rattle.segment_head.specs.declared.stored.Stored.{Stored}
 
-module _ (query : BoundQuery) (table : Table) (name : List ℕ) where
+module _ (query : BoundQuery) (table : Table) (segment : Stored) where
   -- a plan by which nothing is read after the head
-  quiet_reads : (os : List (List Value)) (plan : SegmentPlan) (x : List Entry) → All (EndsBy (file_of name) (ends_at table name os)) x → (plan ≡ Pruned) ⊎ (plan ≡ Empty) → ReadsBy query table name os true x plan
-  quiet_reads os Pruned x all are_unconstrained = record { raw = head_raw query table name os x all; stars = λ t. head_star query table name os x t all }
-  quiet_reads os Empty x all are_unconstrained = record { raw = head_raw query table name os x all; stars = λ t. head_star query table name os x t all }
+  quiet_reads : (os : List (List Value)) (plan : SegmentPlan) (x : List Entry) → All (EndsBy segment.file (ends_at table segment os)) x → (plan ≡ Pruned) ⊎ (plan ≡ Empty) → ReadsBy query table segment os true x plan
+  quiet_reads os Pruned x all are_unconstrained = record { raw = head_raw query table segment os x all; stars = λ t. head_star query table segment os x t all }
+  quiet_reads os Empty x all are_unconstrained = record { raw = head_raw query table segment os x all; stars = λ t. head_star query table segment os x t all }
   quiet_reads os (StarTree t) x all (inl is) = absurd cc
   quiet_reads os (StarTree t) x all (inr is) = absurd cc
   quiet_reads os (Scan plan) x all (inl is) = absurd cc
   quiet_reads os (Scan plan) x all (inr is) = absurd cc
 
-  no_entries : (os : List (List Value)) → All (EndsBy (file_of name) (ends_at table name os)) []
+  no_entries : (os : List (List Value)) → All (EndsBy segment.file (ends_at table segment os)) []
   no_entries os = λ k d lt. absurd (omega (arith, lt))
 
   abbrev AreHeads : Files → List (List Value) → Option (List Entry) → Option (List Entry) → Type 0
-  AreHeads files rows a b = Grown (All (EndsBy (file_of name) (ends_at table name (ordered table.settings.sorted rows)))) a b
+  AreHeads files rows a b = Grown (All (EndsBy segment.file (ends_at table segment (ordered table.settings.sorted rows)))) a b
 
   -- where files are told: on the image of rows the log grew by reads of the head alone
   abbrev pub LogsHeadOne : Option Files → Option (List Entry) → Option (List Entry) → Type 0
-  LogsHeadOne held a b = IfSome held (λ files. (rows : List (List Value)) → HasImage table files name rows → AreHeads files rows a b)
+  LogsHeadOne held a b = IfSome held (λ files. (rows : List (List Value)) → HasImage table files segment rows → AreHeads files rows a b)
 
   pub none_one : (held : Option Files) (a : Option (List Entry)) → LogsHeadOne held a a
   none_one None a = tt
-  none_one (Some files) a = λ rows has. grown_so (All (EndsBy (file_of name) (ends_at table name (ordered table.settings.sorted rows)))) a a [] (same_log a) (no_entries (ordered table.settings.sorted rows))
+  none_one (Some files) a = λ rows has. grown_so (All (EndsBy segment.file (ends_at table segment (ordered table.settings.sorted rows)))) a a [] (same_log a) (no_entries (ordered table.settings.sorted rows))
 
-  pub opened_one : IsValidTable table → IsSegmentName name → (held : Option Files) (a b : Option (List Entry)) → LogsHeadOf table held name a b → LogsHeadOne held a b
+  pub opened_one : IsValidTable table → IsSegmentName segment.name → (held : Option Files) (a b : Option (List Entry)) → LogsHeadOf table held segment a b → LogsHeadOne held a b
   opened_one valid named None a b logs = tt
   opened_one valid named (Some files) a b logs = λ rows has.
-      grown_that (EndsBy (file_of name) (ends_at table name (ordered table.settings.sorted rows))) a b
-      (entries_as _ (EndsBy (file_of name) (ends_at table name (ordered table.settings.sorted rows))) a b (λ entry read. opened_entry table files name rows valid named has entry read) logs)
+      grown_that (EndsBy segment.file (ends_at table segment (ordered table.settings.sorted rows))) a b
+      (entries_as _ (EndsBy segment.file (ends_at table segment (ordered table.settings.sorted rows))) a b (λ entry read. opened_entry table files segment rows valid named has entry read) logs)
 
-  pub loaded_one : (held : Option Files) (head : Seen) (a b : Option (List Entry)) → AreIn (file_of name) head.sections → IsSpreadIn table held name head
+  pub loaded_one : (held : Option Files) (head : Seen) (a b : Option (List Entry)) → AreIn segment.file head.sections → IsSpreadIn table held segment head
       → ((file : List ℕ) (end : ℕ) → AreIn file head.sections → DictionariesEnd table head end → LogsThat (EndsBy file end) a b) → LogsHeadOne held a b
   loaded_one None head a b within spread logs = tt
   loaded_one (Some files) head a b within spread logs = λ rows has.
       let os : List (List Value) = ordered table.settings.sorted rows in
-      grown_that (EndsBy (file_of name) (ends_at table name os)) a b
-      (logs (file_of name) (ends_at table name os) within (all_within table name (file_of name) (front_of 1 table os) head (sizes_each table name os) (spread rows has)))
+      grown_that (EndsBy segment.file (ends_at table segment os)) a b
+      (logs segment.file (ends_at table segment os) within (all_within table segment segment.file (front_of 1 table os) head (sizes_each table segment os) (spread rows has)))
 
-  both_heads : (os : List (List Value)) (x y : List Entry) → All (EndsBy (file_of name) (ends_at table name os)) x → All (EndsBy (file_of name) (ends_at table name os)) y → All (EndsBy (file_of name) (ends_at table name os)) (x ++ y)
-  both_heads os x y p q = All-append (EndsBy (file_of name) (ends_at table name os)) x y p q
+  both_heads : (os : List (List Value)) (x y : List Entry) → All (EndsBy segment.file (ends_at table segment os)) x → All (EndsBy segment.file (ends_at table segment os)) y → All (EndsBy segment.file (ends_at table segment os)) (x ++ y)
+  both_heads os x y p q = All-append (EndsBy segment.file (ends_at table segment os)) x y p q
 
-  pub heads_then : (held : Option Files) (a b c : Option (List Entry)) → LogsIn (file_of name) a b → LogsIn (file_of name) b c → LogsHeadOne held a b → LogsHeadOne held b c → LogsHeadOne held a c
+  pub heads_then : (held : Option Files) (a b c : Option (List Entry)) → LogsIn segment.file a b → LogsIn segment.file b c → LogsHeadOne held a b → LogsHeadOne held b c → LogsHeadOne held a c
   heads_then None a b c first second p q = tt
   heads_then (Some files) a b c (x, made, own) (y, then, other) p q = λ rows has.
-      let P : List Entry → Type 0 = All (EndsBy (file_of name) (ends_at table name (ordered table.settings.sorted rows))) in
+      let P : List Entry → Type 0 = All (EndsBy segment.file (ends_at table segment (ordered table.settings.sorted rows))) in
       grown_then P P P a b c x y made then (p rows has) (q rows has) (λ l m f s. both_heads (ordered table.settings.sorted rows) l m f s)
 
   -- a segment of which no row is looked at
-  pub quiet_one : (held : Option Files) (plan : SegmentPlan) (docs : ℕ) (a b : Option (List Entry)) → IsDoneIn query table held name plan docs → (plan ≡ Pruned) ⊎ (plan ≡ Empty) → LogsHeadOne held a b → LogsOne (ReadsPlanned query table true) table held name a b
+  pub quiet_one : (held : Option Files) (plan : SegmentPlan) (docs : ℕ) (a b : Option (List Entry)) → IsDoneIn query table held segment plan docs → (plan ≡ Pruned) ⊎ (plan ≡ Empty) → LogsHeadOne held a b → LogsOne (ReadsPlanned query table true) table held segment a b
   quiet_one None plan docs a b done are_unconstrained heads = λ before entries was now. tt
   quiet_one (Some files) plan docs a b done are_unconstrained heads = λ before entries was now rows has.
       let os : List (List Value) = ordered table.settings.sorted rows in
-      subst (ReadsBy query table name os true entries) (done rows has).0 (quiet_reads os plan entries (heads rows has before entries was now) are_unconstrained)
+      subst (ReadsBy query table segment os true entries) (done rows has).0 (quiet_reads os plan entries (heads rows has before entries was now) are_unconstrained)
 
   module _ (law : DocsAreBounded) (valid : IsValidTable table) where
     -- one of which the head alone was read, before the query was given up
-    pub given_up : (held : Option Files) (a b : Option (List Entry)) → LogsHeadOne held a b → LogsOne (ReadsPlanned query table false) table held name a b
+    pub given_up : (held : Option Files) (a b : Option (List Entry)) → LogsHeadOne held a b → LogsOne (ReadsPlanned query table false) table held segment a b
     given_up None a b heads = λ before entries was now. tt
-    given_up (Some files) a b heads = λ before entries was now rows has. planned_head law query table valid files name rows has entries (heads rows has before entries was now)
+    given_up (Some files) a b heads = λ before entries was now rows has. planned_head law query table valid files segment rows has entries (heads rows has before entries was now)
 
     -- one that is answered from a star-tree
     module _ (head : Seen) (of_table : IsHeadOf table head) (t : ℕ) (lt : t < length table.settings.trees) where
       abbrev IsTreePlanned : Option Files → Type 0
-      IsTreePlanned held = (files : Files) (rows : List (List Value)) → HasImage table files name rows → IsHeadIn table (Some files) name head → StarTree t ≡ plan_over query table (ordered table.settings.sorted rows)
+      IsTreePlanned held = (files : Files) (rows : List (List Value)) → HasImage table files segment rows → IsHeadIn table (Some files) segment head → StarTree t ≡ plan_over query table (ordered table.settings.sorted rows)
 
-      pub tree_one : (held : Option Files) (count : ℕ) (a b : Option (List Entry)) → IsTreePlanned held → IsHeadIn table held name head → IsSpreadIn table held name head → LogsAnswer query table held head t count a b → LogsOne (ReadsPlanned query table true) table held name a b
+      pub tree_one : (held : Option Files) (count : ℕ) (a b : Option (List Entry)) → IsTreePlanned held → IsHeadIn table held segment head → IsSpreadIn table held segment head → LogsAnswer query table held head t count a b → LogsOne (ReadsPlanned query table true) table held segment a b
       tree_one None count a b planned is spread logs = λ before entries was now. tt
       tree_one (Some files) count a b planned is spread logs = λ before entries was now rows has.
-          answer_reads law query table valid files name rows has t (sym (planned files rows has is)) lt head of_table (spread rows has) (is rows has) count a b logs before entries was now
+          answer_reads law query table valid files segment rows has t (sym (planned files rows has is)) lt head of_table (spread rows has) (is rows has) count a b logs before entries was now
 
-      pub tree_given_up : (held : Option Files) (a b : Option (List Entry)) → IsTreePlanned held → IsHeadIn table held name head → IsSpreadIn table held name head → LogsAnswerPartly query table held head t a b → LogsOne (ReadsPlanned query table false) table held name a b
+      pub tree_given_up : (held : Option Files) (a b : Option (List Entry)) → IsTreePlanned held → IsHeadIn table held segment head → IsSpreadIn table held segment head → LogsAnswerPartly query table held head t a b → LogsOne (ReadsPlanned query table false) table held segment a b
       tree_given_up None a b planned is spread logs = λ before entries was now. tt
       tree_given_up (Some files) a b planned is spread logs = λ before entries was now rows has.
           let (setting, at) = at_place table.settings.trees t lt in
-          answer_reads_partly law query table valid files name rows has t (sym (planned files rows has is)) lt head of_table (spread rows has) (is rows has) setting at a b logs before entries was now
+          answer_reads_partly law query table valid files segment rows has t (sym (planned files rows has is)) lt head of_table (spread rows has) (is rows has) setting at a b logs before entries was now
 
   -- one that is scanned
   module _ (read : ImagesRead) (leave : ImagesLeave) (valid : IsValidTable table) (head : Seen) (of_table : IsHeadOf table head) (loaded : AreNamedLoaded query head) (plan : ScanPlan) (chosen : plan.choices ≡ choices_for query table head)
-      (planned : (files : Files) (rows : List (List Value)) → HasImage table files name rows → IsHeadIn table (Some files) name head → TellsOf table (ordered table.settings.sorted rows) head × (Scan plan ≡ plan_over query table (ordered table.settings.sorted rows))) where
-    pub scan_one : (held : Option Files) (count : ℕ) (a b : Option (List Entry)) → IsHeadIn table held name head → IsSpreadIn table held name head → LogsScan query table held head count a b → LogsOne (ReadsPlanned query table true) table held name a b
+      (planned : (files : Files) (rows : List (List Value)) → HasImage table files segment rows → IsHeadIn table (Some files) segment head → TellsOf table (ordered table.settings.sorted rows) head × (Scan plan ≡ plan_over query table (ordered table.settings.sorted rows))) where
+    pub scan_one : (held : Option Files) (count : ℕ) (a b : Option (List Entry)) → IsHeadIn table held segment head → IsSpreadIn table held segment head → LogsScan query table held head count a b → LogsOne (ReadsPlanned query table true) table held segment a b
     scan_one None count a b is spread logs = λ before entries was now. tt
     scan_one (Some files) count a b is spread logs = λ before entries was now rows has.
         let (tells, plan_is) = planned files rows has is in
-        subst (ReadsBy query table name (ordered table.settings.sorted rows) true entries) plan_is
-        (image_scan read leave query table name head rows valid of_table loaded (spread rows has) tells files (is rows has) plan chosen count a b logs before entries was now)
+        subst (ReadsBy query table segment (ordered table.settings.sorted rows) true entries) plan_is
+        (image_scan read leave query table segment head rows valid of_table loaded (spread rows has) tells files (is rows has) plan chosen count a b logs before entries was now)
 
-    pub scan_given_up : (held : Option Files) (a b : Option (List Entry)) → IsHeadIn table held name head → IsSpreadIn table held name head → LogsScanPartly query table held head a b → LogsOne (ReadsPlanned query table false) table held name a b
+    pub scan_given_up : (held : Option Files) (a b : Option (List Entry)) → IsHeadIn table held segment head → IsSpreadIn table held segment head → LogsScanPartly query table held head a b → LogsOne (ReadsPlanned query table false) table held segment a b
     scan_given_up None a b is spread logs = λ before entries was now. tt
     scan_given_up (Some files) a b is spread logs = λ before entries was now rows has.
         let (tells, plan_is) = planned files rows has is in
-        subst (ReadsBy query table name (ordered table.settings.sorted rows) false entries) plan_is
-        (image_scan_partly read leave query table name head rows valid of_table loaded (spread rows has) tells files (is rows has) plan chosen a b logs before entries was now)
+        subst (ReadsBy query table segment (ordered table.settings.sorted rows) false entries) plan_is
+        (image_scan_partly read leave query table segment head rows valid of_table loaded (spread rows has) tells files (is rows has) plan chosen a b logs before entries was now)
 
   -- the head, and what comes after it
-  pub headed_one : (answered : Bool) (held : Option Files) (a b c : Option (List Entry)) → LogsIn (file_of name) a b → LogsIn (file_of name) b c → LogsHeadOne held a b → LogsOne (ReadsPlanned query table answered) table held name b c → LogsOne (ReadsPlanned query table answered) table held name a c
+  pub headed_one : (answered : Bool) (held : Option Files) (a b c : Option (List Entry)) → LogsIn segment.file a b → LogsIn segment.file b c → LogsHeadOne held a b → LogsOne (ReadsPlanned query table answered) table held segment b c → LogsOne (ReadsPlanned query table answered) table held segment a c
   headed_one answered None a b c first second heads one = λ before entries was now. tt
   headed_one answered (Some files) a b c (x, made, own) (y, then, other) heads one = λ before entries was now rows has.
       let os : List (List Value) = ordered table.settings.sorted rows in
-      grown_then (All (EndsBy (file_of name) (ends_at table name os))) (ReadsPlanned query table answered name os) (ReadsPlanned query table answered name os) a b c x y made then (heads rows has)
-      (λ bf es w n. one bf es w n rows has) (λ l m f s. planned_after query table name os answered l m f s) before entries was now
+      grown_then (All (EndsBy segment.file (ends_at table segment os))) (ReadsPlanned query table answered segment os) (ReadsPlanned query table answered segment os) a b c x y made then (heads rows has)
+      (λ bf es w n. one bf es w n rows has) (λ l m f s. planned_after query table segment os answered l m f s) before entries was now
 
 -- what an answer has holds of one that is weaker
-pub one_less : (query : BoundQuery) (table : Table) (held : Option Files) (name : List ℕ) (a b : Option (List Entry)) → LogsOne (ReadsPlanned query table true) table held name a b → LogsOne (ReadsPlanned query table false) table held name a b
-one_less query table None name a b one = λ before entries was now. tt
-one_less query table (Some files) name a b one = λ before entries was now rows has. planned_less query table name (ordered table.settings.sorted rows) entries (one before entries was now rows has)
+pub one_less : (query : BoundQuery) (table : Table) (held : Option Files) (segment : Stored) (a b : Option (List Entry)) → LogsOne (ReadsPlanned query table true) table held segment a b → LogsOne (ReadsPlanned query table false) table held segment a b
+one_less query table None segment a b one = λ before entries was now. tt
+one_less query table (Some files) segment a b one = λ before entries was now rows has. planned_less query table segment (ordered table.settings.sorted rows) entries (one before entries was now rows has)
 
 -- the head says where the sections are still where more of it is loaded
-pub spread_later : (table : Table) (held : Option Files) (name : List ℕ) (old new : Seen) → new.sections ≡ old.sections → IsSpreadIn table held name old → IsSpreadIn table held name new
-spread_later table None name old new same spread = tt
-spread_later table (Some files) name old new same spread = λ rows has. same ∙ spread rows has
+pub spread_later : (table : Table) (held : Option Files) (segment : Stored) (old new : Seen) → new.sections ≡ old.sections → IsSpreadIn table held segment old → IsSpreadIn table held segment new
+spread_later table None segment old new same spread = tt
+spread_later table (Some files) segment old new same spread = λ rows has. same ∙ spread rows has
 
 pub err_so : {T E : Type 0} (r : Result T E) (A B : Type 0) → (A → B) → OnErr r A → OnErr r B
 err_so (Ok t) A B f h = tt

@@ -26,12 +26,13 @@ use Rattle.query_executor.specs.declared.fault.ExecutorFault.TheVariants.{NotASe
 use Rattle.query_executor.proofs.EndLemmas.{Done, Failed, fault_not, fault_ok, memory_not_bad, memory_not_full, memory_not_read, no_fault, own_fault, reads_done, reads_failed, reads_lacking, reads_still, reads_unread}
 use Rattle.query_executor.proofs.FaultLemmas.{memory_not_bad_at, memory_not_read_at, text_not_bad_at, text_not_read_at}
 use Rattle.query_executor.proofs.Unread.{asked_err, asked_ok, unread}
+use Rattle.segment_head.specs.declared.stored.Stored.{Stored}
 
 -- ---- one segment
 
-module _ (query : BoundQuery) (table : Table) (name : List ℕ) (groups now : KeptGroups) where
+module _ (query : BoundQuery) (table : Table) (segment : Stored) (groups now : KeptGroups) where
   -- a fault that is handed on
-  pub adds_failed : (T U : Type 0) (f : EngineFault) (a b : Seen) → AddsSegment query table name groups now a b (Failed T f) → AddsSegment query table name groups now a b (Failed U f)
+  pub adds_failed : (T U : Type 0) (f : EngineFault) (a b : Seen) → AddsSegment query table segment groups now a b (Failed T f) → AddsSegment query table segment groups now a b (Failed U f)
   adds_failed T U f a b p = record {
     added = tt;
     full = λ e. p.full (ap Err (own_fault U f engine.TooManyGroups e));
@@ -43,7 +44,7 @@ module _ (query : BoundQuery) (table : Table) (name : List ℕ) (groups now : Ke
   }
 
   -- another value
-  pub adds_done : (T U : Type 0) (x : T) (y : U) (a b : Seen) → AddsSegment query table name groups now a b (Done {E = EngineFault} x) → AddsSegment query table name groups now a b (Done {E = EngineFault} y)
+  pub adds_done : (T U : Type 0) (x : T) (y : U) (a b : Seen) → AddsSegment query table segment groups now a b (Done {E = EngineFault} x) → AddsSegment query table segment groups now a b (Done {E = EngineFault} y)
   adds_done T U x y a b p = record {
     added = p.added;
     full = λ e. absurd (no_fault U y engine.TooManyGroups e);
@@ -55,7 +56,7 @@ module _ (query : BoundQuery) (table : Table) (name : List ℕ) (groups now : Ke
   }
 
   -- a want of memory after it
-  pub adds_lacking : (T U : Type 0) (x : T) (r : Result U EngineFault) (a b : Seen) → r ≡ Err engine.NoMemory → AddsSegment query table name groups now a b (Done {E = EngineFault} x) → AddsSegment query table name groups now a b r
+  pub adds_lacking : (T U : Type 0) (x : T) (r : Result U EngineFault) (a b : Seen) → r ≡ Err engine.NoMemory → AddsSegment query table segment groups now a b (Done {E = EngineFault} x) → AddsSegment query table segment groups now a b r
   adds_lacking T U x r a b is p = record {
     added = fault_ok U r engine.NoMemory _ is;
     full = λ e. absurd (fault_not U r engine.NoMemory engine.TooManyGroups memory_not_full is e);
@@ -63,11 +64,11 @@ module _ (query : BoundQuery) (table : Table) (name : List ℕ) (groups now : Ke
     only_reads = reads_lacking _ a b (λ e. fault_not U r engine.NoMemory engine.ReadFault memory_not_read is e) (reads_still T x engine.ReadFault a b p.only_reads);
     log = p.log;
     reads = fault_ok U r engine.NoMemory _ is;
-    reads_of_fault = on-err r (LogsOne (ReadsPlanned query table false) table a.held name a.log b.log) (one_less query table a.held name a.log b.log p.reads);
+    reads_of_fault = on-err r (LogsOne (ReadsPlanned query table false) table a.held segment a.log b.log) (one_less query table a.held segment a.log b.log p.reads);
   }
 
-module _ (table : Table) (name : List ℕ) where
-  pub head_failed : (T U : Type 0) (f : EngineFault) (a b : Seen) → LooksAtHead table name a b (Failed T f) → LooksAtHead table name a b (Failed U f)
+module _ (table : Table) (segment : Stored) where
+  pub head_failed : (T U : Type 0) (f : EngineFault) (a b : Seen) → LooksAtHead table segment a b (Failed T f) → LooksAtHead table segment a b (Failed U f)
   head_failed T U f a b p = record {
     bad = λ part e. p.bad part (ap Err (own_fault U f (engine.NotASegment part) e));
     never_full = λ e. p.never_full (ap Err (own_fault U f engine.TooManyGroups e));
@@ -75,7 +76,7 @@ module _ (table : Table) (name : List ℕ) where
     log = p.log;
   }
 
-  pub head_done : (T U : Type 0) (x : T) (y : U) (a b : Seen) → LooksAtHead table name a b (Done {E = EngineFault} x) → LooksAtHead table name a b (Done {E = EngineFault} y)
+  pub head_done : (T U : Type 0) (x : T) (y : U) (a b : Seen) → LooksAtHead table segment a b (Done {E = EngineFault} x) → LooksAtHead table segment a b (Done {E = EngineFault} y)
   head_done T U x y a b p = record {
     bad = λ part e. absurd (no_fault U y (engine.NotASegment part) e);
     never_full = λ e. no_fault U y engine.TooManyGroups e;
@@ -83,7 +84,7 @@ module _ (table : Table) (name : List ℕ) where
     log = p.log;
   }
 
-  pub head_lacking : (T U : Type 0) (x : T) (r : Result U EngineFault) (a b : Seen) → r ≡ Err engine.NoMemory → LooksAtHead table name a b (Done {E = EngineFault} x) → LooksAtHead table name a b r
+  pub head_lacking : (T U : Type 0) (x : T) (r : Result U EngineFault) (a b : Seen) → r ≡ Err engine.NoMemory → LooksAtHead table segment a b (Done {E = EngineFault} x) → LooksAtHead table segment a b r
   head_lacking T U x r a b is p = record {
     bad = λ part e. absurd (fault_not U r engine.NoMemory (engine.NotASegment part) (memory_not_bad part) is e);
     never_full = λ e. fault_not U r engine.NoMemory engine.TooManyGroups memory_not_full is e;
@@ -93,8 +94,8 @@ module _ (table : Table) (name : List ℕ) where
 
 -- ---- the segments of a table
 
-module _ (query : BoundQuery) (table : Table) (names : List (List ℕ)) where
-  pub pass_failed : (T U : Type 0) (f : ExecutorFault) (a b : Seen) → PassReads query table names a b (Failed T f) → PassReads query table names a b (Failed U f)
+module _ (query : BoundQuery) (table : Table) (stored : List Stored) where
+  pub pass_failed : (T U : Type 0) (f : ExecutorFault) (a b : Seen) → PassReads query table stored a b (Failed T f) → PassReads query table stored a b (Failed U f)
   pass_failed T U f a b p = record {
     bad = λ at part e. p.bad at part (ap Err (own_fault U f (NotASegment at part) e));
     only_reads = reads_failed T U f ReadFault a b p.only_reads;
@@ -103,7 +104,7 @@ module _ (query : BoundQuery) (table : Table) (names : List (List ℕ)) where
     reads_of_fault = p.reads_of_fault;
   }
 
-  pub pass_done : (T U : Type 0) (x : T) (y : U) (a b : Seen) → PassReads query table names a b (Done {E = ExecutorFault} x) → PassReads query table names a b (Done {E = ExecutorFault} y)
+  pub pass_done : (T U : Type 0) (x : T) (y : U) (a b : Seen) → PassReads query table stored a b (Done {E = ExecutorFault} x) → PassReads query table stored a b (Done {E = ExecutorFault} y)
   pass_done T U x y a b p = record {
     bad = λ at part e. absurd (no_fault U y (NotASegment at part) e);
     only_reads = reads_done T U x y ReadFault a b p.only_reads;
@@ -113,51 +114,59 @@ module _ (query : BoundQuery) (table : Table) (names : List (List ℕ)) where
   }
 
   -- a want of memory after all was read
-  pub pass_lacking : (T U : Type 0) (x : T) (r : Result U ExecutorFault) (a b : Seen) → r ≡ Err (Sql NoMemory) → PassReads query table names a b (Done {E = ExecutorFault} x) → PassReads query table names a b r
+  pub pass_lacking : (T U : Type 0) (x : T) (r : Result U ExecutorFault) (a b : Seen) → r ≡ Err (Sql NoMemory) → PassReads query table stored a b (Done {E = ExecutorFault} x) → PassReads query table stored a b r
   pass_lacking T U x r a b is p = record {
     bad = λ at part e. absurd (fault_not U r (Sql NoMemory) (NotASegment at part) (memory_not_bad_at at part) is e);
     only_reads = reads_lacking _ a b (λ e. fault_not U r (Sql NoMemory) ReadFault memory_not_read_at is e) (reads_still T x ReadFault a b p.only_reads);
     log = p.log;
     reads = fault_ok U r (Sql NoMemory) _ is;
-    reads_of_fault = on-err r (LogsEach (ReadsPlanned query table false) table a.held names (length names) a.log b.log)
-        (each_as (ReadsPlanned query table true) (ReadsPlanned query table false) table a.held names (length names) a.log b.log (planned_less query table) p.reads);
+    reads_of_fault = on-err r (LogsEach (ReadsPlanned query table false) table a.held stored (length stored) a.log b.log)
+        (each_as (ReadsPlanned query table true) (ReadsPlanned query table false) table a.held stored (length stored) a.log b.log (planned_less query table) p.reads);
   }
 
   -- and before anything was
-  pub pass_unread : DocsAreBounded → IsValidTable table → (U : Type 0) (r : Result U ExecutorFault) (a : Seen) → r ≡ Err (Sql NoMemory) → PassReads query table names a a r
+  pub pass_unread : DocsAreBounded → IsValidTable table → (U : Type 0) (r : Result U ExecutorFault) (a : Seen) → r ≡ Err (Sql NoMemory) → PassReads query table stored a a r
   pass_unread law valid U r a is = record {
     bad = λ at part e. absurd (fault_not U r (Sql NoMemory) (NotASegment at part) (memory_not_bad_at at part) is e);
     only_reads = reads_unread _ a (λ e. fault_not U r (Sql NoMemory) ReadFault memory_not_read_at is e);
-    log = logs_none (IsFileOf names) a.log;
+    log = logs_none (IsFileOf stored) a.log;
     reads = fault_ok U r (Sql NoMemory) _ is;
-    reads_of_fault = on-err r (LogsEach (ReadsPlanned query table false) table a.held names (length names) a.log a.log) (unread law query table valid a.held names a.log);
+    reads_of_fault = on-err r (LogsEach (ReadsPlanned query table false) table a.held stored (length stored) a.log a.log) (unread law query table valid a.held stored a.log);
   }
 
   -- the query of a text
-  pub pass_of_text : (sql : List ℕ) → asked table false sql ≡ Ok query → (T : Type 0) (r : Result T ExecutorFault) (a b : Seen) → PassReads query table names a b r → TextReads table names sql a b r
+  pub pass_of_text : (sql : List ℕ) → asked table false sql ≡ Ok query → (T : Type 0) (r : Result T ExecutorFault) (a b : Seen) → PassReads query table stored a b r → TextReads table stored sql a b r
   pass_of_text sql is T r a b p = record {
     unread = λ fault none. let both : Ok query ≡ Err fault = sym is ∙ none in absurd cc;
     bad = p.bad;
     only_reads = p.only_reads;
     log = p.log;
-    reads = asked_ok r (λ query. LogsEach (ReadsPlanned query table true) table a.held names (length names) a.log b.log) (asked table false sql) query is p.reads;
-    reads_of_fault = asked_err r (λ query. LogsEach (ReadsPlanned query table false) table a.held names (length names) a.log b.log) (asked table false sql) query is p.reads_of_fault;
+    reads = asked_ok r (λ query. LogsEach (ReadsPlanned query table true) table a.held stored (length stored) a.log b.log) (asked table false sql) query is p.reads;
+    reads_of_fault = asked_err r (λ query. LogsEach (ReadsPlanned query table false) table a.held stored (length stored) a.log b.log) (asked table false sql) query is p.reads_of_fault;
   }
 
 -- a text that is no query
-pub text_unread : DocsAreBounded → (table : Table) → IsValidTable table → (names : List (List ℕ)) (sql : List ℕ) (U : Type 0) (fault : SqlFault) (a : Seen) → TextReads table names sql a a (Failed U (Sql fault))
-text_unread law table valid names sql U fault a = record {
+pub text_unread : DocsAreBounded → (table : Table) → IsValidTable table → (stored : List Stored) (sql : List ℕ) (U : Type 0) (fault : SqlFault) (a : Seen) → TextReads table stored sql a a (Failed U (Sql fault))
+text_unread law table valid stored sql U fault a = record {
   unread = λ other is. refl;
   bad = λ at part e. absurd (text_not_bad_at fault at part (own_fault U (Sql fault) (NotASegment at part) e));
   only_reads = reads_unread _ a (λ e. text_not_read_at fault (own_fault U (Sql fault) ReadFault e));
-  log = logs_none (IsFileOf names) a.log;
+  log = logs_none (IsFileOf stored) a.log;
   reads = tt;
-  reads_of_fault = λ query asks. unread law query table valid a.held names a.log;
+  reads_of_fault = λ query asks. unread law query table valid a.held stored a.log;
 }
 
-pub heads_unread : (table : Table) (names : List (List ℕ)) (U : Type 0) (fault : SqlFault) (a : Seen) → LooksAtHeads table names a a (Failed U (Sql fault))
-heads_unread table names U fault a = record {
+pub heads_unread : (table : Table) (stored : List Stored) (U : Type 0) (fault : SqlFault) (a : Seen) → LooksAtHeads table stored a a (Failed U (Sql fault))
+heads_unread table stored U fault a = record {
   bad = λ at part e. absurd (text_not_bad_at fault at part (own_fault U (Sql fault) (NotASegment at part) e));
   only_reads = reads_unread _ a (λ e. text_not_read_at fault (own_fault U (Sql fault) ReadFault e));
-  log = entries_none (λ entry. (name : List ℕ) × Contains names name × IsHeadRead table a.held name entry) a.log;
+  log = entries_none (λ entry. (segment : Stored) × Contains stored segment × IsHeadRead table a.held segment entry) a.log;
+}
+
+-- a want of memory before the first read
+pub heads_lacking : (table : Table) (stored : List Stored) (U : Type 0) (r : Result U ExecutorFault) (a : Seen) → r ≡ Err (Sql NoMemory) → LooksAtHeads table stored a a r
+heads_lacking table stored U r a is = record {
+  bad = λ at part e. absurd (fault_not U r (Sql NoMemory) (NotASegment at part) (memory_not_bad_at at part) is e);
+  only_reads = reads_unread _ a (λ e. fault_not U r (Sql NoMemory) ReadFault memory_not_read_at is e);
+  log = entries_none (λ entry. (segment : Stored) × Contains stored segment × IsHeadRead table a.held segment entry) a.log;
 }

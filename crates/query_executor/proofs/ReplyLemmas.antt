@@ -8,6 +8,8 @@ use Rattle.sql_reply.specs.Reply.{conjuncts_reply, most_groups}
 use Rattle.sql_reply.specs.SqlReply.{IsOfText, SqlReply, replied, sql_reply}
 use Rattle.sql_reply.specs.declared.fault.SqlFault.{SqlFault}
 use Rattle.sql_reply.specs.declared.fault.SqlFault.TheVariants.{NoMemory, TooManyGroups}
+use Rattle.query_executor.specs.Passes.{AreSegmentsOf}
+use Rattle.segment_reads.proofs.NameLemmas.{names_live}
 use Rattle.query_executor.specs.Answers.{IsBoundReply, IsReply}
 use Rattle.std.specs.FinMap as finite
 use Rattle.std.proofs.lemmas.Bool.{lt-ltb}
@@ -19,12 +21,13 @@ use Rattle.group_table.specs.Shape.{Shape, shape_of}
 use Rattle.broker_merge.specs.Answer.{answer_of, answer_text}
 use Rattle.broker_merge.specs.Reply.{Reply, reply_over}
 use Rattle.scan_engine.specs.Scanned.{selected}
-use Rattle.segment_head.specs.Stored.{HasImage, stored_rows}
+use Rattle.segment_head.specs.Stored.{HasImage, names_of, stored_rows}
 use Rattle.query_executor.specs.Steps.{HasGroups, HaveTooMany, HasLines}
 use Rattle.sql_reply.specs.Asked.{asked}
 use Rattle.query_executor.specs.Explained.{IsExplained, lines_or}
 use Rattle.query_executor.specs.Lines.{in_order, plan_line}
 use Rattle.query_executor.proofs.LineLemmas.{lines_all}
+use Rattle.segment_head.specs.declared.stored.Stored.{Stored}
 
 -- what is wrong with a text is no want of memory
 pub text_real : (fault : SqlFault) → IsOfText fault → fault ≢ NoMemory
@@ -33,28 +36,28 @@ text_real fault text = λ e. subst IsOfText e text
 pub groups_no_text : (fault : SqlFault) (most : ℕ) → fault ≡ TooManyGroups most → ¬ IsOfText fault
 groups_no_text fault most is = λ text. subst IsOfText is text
 
-module _ (table : Table) (names : List (List ℕ)) (sql : List ℕ) where
+module _ (table : Table) (stored : List Stored) (sql : List ℕ) where
   pub reply_so : (query : BoundQuery) → ((rows : List (List Value)) → sql_reply table false sql rows ≡ replied (conjuncts_reply query rows)) → (held : Option Files) (reply : SqlReply)
-      → IfSome held (λ files. IsBoundReply table files names query reply) → IfSome held (λ files. IsReply table files names sql reply)
+      → IfSome held (λ files. IsBoundReply table files stored query reply) → IfSome held (λ files. IsReply table files stored sql reply)
   reply_so query same None reply is = tt
   reply_so query same (Some files) reply is = λ segments all. same _ ∙ is segments all
 
-  pub fault_so : (fault : SqlFault) → ((rows : List (List Value)) → sql_reply table false sql rows ≡ Err fault) → (held : Option Files) → IfSome held (λ files. IsReply table files names sql (Err fault))
+  pub fault_so : (fault : SqlFault) → ((rows : List (List Value)) → sql_reply table false sql rows ≡ Err fault) → (held : Option Files) → IfSome held (λ files. IsReply table files stored sql (Err fault))
   fault_so fault is None = tt
   fault_so fault is (Some files) = λ segments all. is _
 
 -- ---- over the groups of all segments
 
-module _ (query : BoundQuery) (table : Table) (names : List (List ℕ)) where
-  pub all_answered : (held : Option Files) (groups : KeptGroups) (text : List ℕ) → HasGroups query table held names (length names) groups → replied (reply_over most_groups (shape_of query) (groups_in groups)) ≡ Ok text
-      → IfSome held (λ files. IsBoundReply table files names query (Ok text))
+module _ (query : BoundQuery) (table : Table) (stored : List Stored) where
+  pub all_answered : (held : Option Files) (groups : KeptGroups) (text : List ℕ) → HasGroups query table held stored (length stored) groups → replied (reply_over most_groups (shape_of query) (groups_in groups)) ≡ Ok text
+      → IfSome held (λ files. IsBoundReply table files stored query (Ok text))
   all_answered None groups text so is = tt
   all_answered (Some files) groups text so is = λ segments all.
-      let whole : take (length names) segments ≡ segments = take_all (length names) segments (omega (arith, AllZip-long (HasImage table files) names segments all)) in
+      let whole : take (length stored) segments ≡ segments = take_all (length stored) segments (omega (arith, AllZip-long (HasImage table files) stored segments all)) in
       let groups_are : groups_in groups ≡ groups_of (shape_of query) (selected query (stored_rows table segments)) = so segments all ∙ ap (λ l. groups_of (shape_of query) (selected query (stored_rows table l))) whole in
       ap (λ g. replied (reply_over most_groups (shape_of query) g)) (sym groups_are) ∙ is
 
-  pub too_many_refused : (held : Option Files) → HaveTooMany query table held names most_groups → IfSome held (λ files. IsBoundReply table files names query (Err (TooManyGroups most_groups)))
+  pub too_many_refused : (held : Option Files) → HaveTooMany query table held stored most_groups → IfSome held (λ files. IsBoundReply table files stored query (Err (TooManyGroups most_groups)))
   too_many_refused None over = tt
   too_many_refused (Some files) over = λ segments all.
       let rows : List (List Value) = selected query (stored_rows table segments) in
@@ -66,8 +69,14 @@ module _ (query : BoundQuery) (table : Table) (names : List (List ℕ)) where
 
 -- ---- over the lines of all segments
 
-pub all_explained : (query : BoundQuery) (table : Table) (names : List (List ℕ)) (sql : List ℕ) → asked table false sql ≡ Ok query → (held : Option Files) (text : List ℕ) → HasLines (plan_line query table) table held names (length names) text
-    → IfSome held (λ files. IsExplained table files names sql (Ok text))
-all_explained query table names sql is None text so = tt
-all_explained query table names sql is (Some files) text so = λ segments all.
-    ap (lines_or table names (in_order table segments)) is ∙ ap Ok (lines_all (plan_line query table) table names files text so segments all)
+pub all_explained : (query : BoundQuery) (table : Table) (stored : List Stored) (sql : List ℕ) → asked table false sql ≡ Ok query → (held : Option Files) (text : List ℕ) → HasLines (plan_line query table) table held stored (length stored) text
+    → IfSome held (λ files. IsExplained table files stored sql (Ok text))
+all_explained query table stored sql is None text so = tt
+all_explained query table stored sql is (Some files) text so = λ segments all.
+    ap (lines_or table (names_of stored) (in_order table segments)) is ∙ ap Ok (lines_all (plan_line query table) table stored files text so segments all)
+
+-- ---- segments that a store publishes
+
+-- they have the names that they are asked by
+pub over_live : (table : Table) (names : List (List ℕ)) (stored : List Stored) → stored ≡ map live names → AreSegmentsOf table names → AreSegmentsOf table (names_of stored)
+over_live table names stored is of = subst (λ l. AreSegmentsOf table (names_of l)) (sym is) (subst (AreSegmentsOf table) (sym (names_live names)) of)

@@ -22,14 +22,15 @@ use Rattle.query_executor.specs.Steps.{AddsGroups, AddsStored, IsStoredOverfull,
 use Rattle.segment_opening.specs.Opened.{IsHeadIn}
 use Rattle.query_executor.proofs.PlanLemmas.{none_selected}
 use Rattle.segment_head.proofs.SectionLemmas.{rows_few}
+use Rattle.segment_head.specs.declared.stored.Stored.{Stored}
 
 pub room : (table : Table) (head : Seen) (groups : KeptGroups) → IsHeadOf table head → HaveAtMost (most_values - 1048576) (groups_in groups) → HaveAtMost (most_values - head.rows) (groups_in groups)
 room table head groups of fits = let at_most = rows_few table head of in at_most_more (groups_in groups) (most_values - 1048576) (most_values - head.rows) (omega (arith, at_most)) fits
 
-module _ (query : BoundQuery) (table : Table) (name : List ℕ) (head : Seen) where
+module _ (query : BoundQuery) (table : Table) (segment : Stored) (head : Seen) where
   -- no row of the segment satisfies the query, and nothing is added
   pub adds_none : HeadTells → IsValidTable table → (held : Option Files) (groups : KeptGroups) → IsTableOf query groups → ((rows : List (List Value)) → TellsOf table rows head → NoneHolds query.conjuncts rows)
-      → IsHeadIn table held name head → AddsStored query table held name groups groups
+      → IsHeadIn table held segment head → AddsStored query table held segment groups groups
   adds_none law valid held groups of none is = record {
     of_query = of;
     most = refl;
@@ -37,7 +38,7 @@ module _ (query : BoundQuery) (table : Table) (name : List ℕ) (head : Seen) wh
     told = by held is;
   }
     where
-      by : (h : Option Files) → IsHeadIn table h name head → IfSome h (λ files. (rows : List (List Value)) → HasImage table files name rows → AddsGroups query (selected_in query table rows) groups groups)
+      by : (h : Option Files) → IsHeadIn table h segment head → IfSome h (λ files. (rows : List (List Value)) → HasImage table files segment rows → AddsGroups query (selected_in query table rows) groups groups)
       by None is = tt
       by (Some files) is = λ rows has done same.
           let i = is rows has in
@@ -48,7 +49,7 @@ module _ (query : BoundQuery) (table : Table) (name : List ℕ) (head : Seen) wh
   -- the rows that satisfy the filter were added, whether by a scan or from a star-tree
   adds_by : (held : Option Files) (old new : KeptGroups) → IsHeadOf table head → IsTableOf query new → new.most ≡ old.most → ((n : ℕ) → HaveAtMost n (groups_in old) → HaveAtMost (n + head.rows) (groups_in new))
       → IfSome held (λ files. (rows : List (List Value)) → IsOfImage table files rows head → (head.rows ≡ length rows) × AddsRows query (length rows) (selected query (ordered table.settings.sorted rows)) old new)
-      → IsHeadIn table held name head → AddsStored query table held name old new
+      → IsHeadIn table held segment head → AddsStored query table held segment old new
   adds_by held old new of of_query most fits told is = record {
     of_query = of_query;
     most = most;
@@ -57,30 +58,30 @@ module _ (query : BoundQuery) (table : Table) (name : List ℕ) (head : Seen) wh
   }
     where
       by : (h : Option Files) → IfSome h (λ files. (rows : List (List Value)) → IsOfImage table files rows head → (head.rows ≡ length rows) × AddsRows query (length rows) (selected query (ordered table.settings.sorted rows)) old new)
-          → IsHeadIn table h name head → IfSome h (λ files. (rows : List (List Value)) → HasImage table files name rows → AddsGroups query (selected_in query table rows) old new)
+          → IsHeadIn table h segment head → IfSome h (λ files. (rows : List (List Value)) → HasImage table files segment rows → AddsGroups query (selected_in query table rows) old new)
       by None told is = tt
       by (Some files) told is = λ rows has. (told rows (is rows has)).1.groups
 
-  pub adds_scanned : (held : Option Files) (old new : KeptGroups) → IsHeadOf table head → AddsImage query table held head old new → IsHeadIn table held name head → AddsStored query table held name old new
+  pub adds_scanned : (held : Option Files) (old new : KeptGroups) → IsHeadOf table head → AddsImage query table held head old new → IsHeadIn table held segment head → AddsStored query table held segment old new
   adds_scanned held old new of a is = adds_by held old new of a.adds.of_query a.adds.most a.adds.fits a.told is
 
-  pub adds_answered : (held : Option Files) (old new : KeptGroups) → IsHeadOf table head → AddsAnswer query table held head old new → IsHeadIn table held name head → AddsStored query table held name old new
+  pub adds_answered : (held : Option Files) (old new : KeptGroups) → IsHeadOf table head → AddsAnswer query table held head old new → IsHeadIn table held segment head → AddsStored query table held segment old new
   adds_answered held old new of a is = adds_by held old new of a.grows.of_query a.grows.most a.grows.fits a.told is
 
   -- there are too many groups
-  pub overfull_scanned : (held : Option Files) (old : KeptGroups) → IsImageOverfull query table held head old → IsHeadIn table held name head → IsStoredOverfull query table held name old
+  pub overfull_scanned : (held : Option Files) (old : KeptGroups) → IsImageOverfull query table held head old → IsHeadIn table held segment head → IsStoredOverfull query table held segment old
   overfull_scanned None old over is = tt
   overfull_scanned (Some files) old over is = λ rows has. over.1 rows (is rows has)
 
-  pub overfull_answered : (held : Option Files) (old : KeptGroups) → IfSome held (λ files. (rows : List (List Value)) → IsOfImage table files rows head → IsOverfull query (selected query (ordered table.settings.sorted rows)) old) → IsHeadIn table held name head
-      → IsStoredOverfull query table held name old
+  pub overfull_answered : (held : Option Files) (old : KeptGroups) → IfSome held (λ files. (rows : List (List Value)) → IsOfImage table files rows head → IsOverfull query (selected query (ordered table.settings.sorted rows)) old) → IsHeadIn table held segment head
+      → IsStoredOverfull query table held segment old
   overfull_answered None old over is = tt
   overfull_answered (Some files) old over is = λ rows has. over rows (is rows has)
 
   -- what is read is that of no image
-  pub bad_answered : (h : Option Files) → IsNoImage table h head → IsHeadIn table h name head → IfSome h (λ files. HasNoImage table files name)
+  pub bad_answered : (h : Option Files) → IsNoImage table h head → IsHeadIn table h segment head → IfSome h (λ files. HasNoImage table files segment)
   bad_answered None bad is = tt
   bad_answered (Some files) bad is = λ rows has. bad rows (is rows has)
 
-  pub bad_scanned : (held : Option Files) (part : Part) → IsBadIn query table held head part → IsHeadIn table held name head → IfSome held (λ files. HasNoImage table files name)
+  pub bad_scanned : (held : Option Files) (part : Part) → IsBadIn query table held head part → IsHeadIn table held segment head → IfSome held (λ files. HasNoImage table files segment)
   bad_scanned held part bad is = bad_answered held bad.1 is

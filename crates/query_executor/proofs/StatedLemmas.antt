@@ -12,52 +12,53 @@ use Rattle.sql_reply.specs.SqlReply.{replied, sql_reply}
 use Rattle.sql_reply.specs.declared.fault.SqlFault.{SqlFault}
 use Rattle.query_executor.specs.Answers.{IsBoundReply}
 use Rattle.query_executor.specs.Lines.{in_order, lines_of, stats_line}
-use Rattle.segment_head.specs.Stored.{stored_rows}
+use Rattle.segment_head.specs.Stored.{names_of, stored_rows}
 use Rattle.query_executor.specs.Stated.{IsStated, stated_by, with_lines, IsBoundStated}
 use Rattle.query_executor.specs.Steps.{HasLines}
 use Rattle.query_executor.proofs.LineLemmas.{lines_all}
+use Rattle.segment_head.specs.declared.stored.Stored.{Stored}
 
 -- the rows of all segments are those of each, one after the other
 all_in_order : (f : List (List Value) → List (List Value)) (segments : List (List (List Value))) → flat_map (λ rows. rows) (map f segments) ≡ flat_map f segments
 all_in_order f [] = refl
 all_in_order f (rows ∷ segments) = ap (λ l. f rows ++ l) (all_in_order f segments)
 
-module _ (query : BoundQuery) (table : Table) (names : List (List ℕ)) where
+module _ (query : BoundQuery) (table : Table) (stored : List Stored) where
   -- the reply, an empty line, and the lines
-  pub bound_stated : (held : Option Files) (text lines all : List ℕ) → IfSome held (λ files. IsBoundReply table files names query (Ok text)) → HasLines (stats_line query table) table held names (length names) lines → all ≡ text ++ (10 ∷ lines)
-      → IfSome held (λ files. IsBoundStated table files names query all)
+  pub bound_stated : (held : Option Files) (text lines all : List ℕ) → IfSome held (λ files. IsBoundReply table files stored query (Ok text)) → HasLines (stats_line query table) table held stored (length stored) lines → all ≡ text ++ (10 ∷ lines)
+      → IfSome held (λ files. IsBoundStated table files stored query all)
   bound_stated None text lines all reply so is = tt
   bound_stated (Some files) text lines all reply so is = λ segments images.
-      (λ i. with_lines (lines_all (stats_line query table) table names files lines so segments images i) (reply segments images i))
+      (λ i. with_lines (lines_all (stats_line query table) table stored files lines so segments images i) (reply segments images i))
       ∙ ap Ok (sym is)
 
   module _ (sql : List ℕ) where
     -- so the text has this reply
-    pub stated_so : asked table false sql ≡ Ok query → ((rows : List (List Value)) → sql_reply table false sql rows ≡ replied (conjuncts_reply query rows)) → (held : Option Files) (all : List ℕ) → IfSome held (λ files. IsBoundStated table files names query all)
-        → IfSome held (λ files. IsStated table files names sql (Ok all))
+    pub stated_so : asked table false sql ≡ Ok query → ((rows : List (List Value)) → sql_reply table false sql rows ≡ replied (conjuncts_reply query rows)) → (held : Option Files) (all : List ℕ) → IfSome held (λ files. IsBoundStated table files stored query all)
+        → IfSome held (λ files. IsStated table files stored sql (Ok all))
     stated_so is same None all stated = tt
     stated_so is same (Some files) all stated = λ segments images.
         let rows : List (List Value) = flat_map (λ rows. rows) (in_order table segments) in
-        let lines : List ℕ = lines_of (stats_line query table) names (in_order table segments) in
-        ap (stated_by table names (in_order table segments) (sql_reply table false sql rows)) is
+        let lines : List ℕ = lines_of (stats_line query table) (names_of stored) (in_order table segments) in
+        ap (stated_by table (names_of stored) (in_order table segments) (sql_reply table false sql rows)) is
         ∙ ap (λ r. with_lines lines (sql_reply table false sql r)) (all_in_order (ordered table.settings.sorted) segments)
         ∙ ap (with_lines lines) (same (stored_rows table segments))
         ∙ stated segments images
 
     -- or there are too many groups
     pub stated_fault : asked table false sql ≡ Ok query → ((rows : List (List Value)) → sql_reply table false sql rows ≡ replied (conjuncts_reply query rows)) → (held : Option Files) (fault : SqlFault)
-        → IfSome held (λ files. IsBoundReply table files names query (Err fault)) → IfSome held (λ files. IsStated table files names sql (Err fault))
+        → IfSome held (λ files. IsBoundReply table files stored query (Err fault)) → IfSome held (λ files. IsStated table files stored sql (Err fault))
     stated_fault is same None fault reply = tt
     stated_fault is same (Some files) fault reply = λ segments images.
         let rows : List (List Value) = flat_map (λ rows. rows) (in_order table segments) in
-        let lines : List ℕ = lines_of (stats_line query table) names (in_order table segments) in
-        ap (stated_by table names (in_order table segments) (sql_reply table false sql rows)) is
+        let lines : List ℕ = lines_of (stats_line query table) (names_of stored) (in_order table segments) in
+        ap (stated_by table (names_of stored) (in_order table segments) (sql_reply table false sql rows)) is
         ∙ ap (λ r. with_lines lines (sql_reply table false sql r)) (all_in_order (ordered table.settings.sorted) segments)
         ∙ ap (with_lines lines) (same (stored_rows table segments) ∙ reply segments images)
 
 -- a text that is no query
-pub unasked_stated : (table : Table) (names : List (List ℕ)) (sql : List ℕ) (fault : SqlFault) → asked table false sql ≡ Err fault → ((rows : List (List Value)) → sql_reply table false sql rows ≡ Err fault) → (held : Option Files) → IfSome held (λ files. IsStated table files names sql (Err fault))
-unasked_stated table names sql fault is same None = tt
-unasked_stated table names sql fault is same (Some files) = λ segments images.
+pub unasked_stated : (table : Table) (stored : List Stored) (sql : List ℕ) (fault : SqlFault) → asked table false sql ≡ Err fault → ((rows : List (List Value)) → sql_reply table false sql rows ≡ Err fault) → (held : Option Files) → IfSome held (λ files. IsStated table files stored sql (Err fault))
+unasked_stated table stored sql fault is same None = tt
+unasked_stated table stored sql fault is same (Some files) = λ segments images.
     let rows : List (List Value) = flat_map (λ rows. rows) (in_order table segments) in
-    ap (stated_by table names (in_order table segments) (sql_reply table false sql rows)) is ∙ same rows
+    ap (stated_by table (names_of stored) (in_order table segments) (sql_reply table false sql rows)) is ∙ same rows

@@ -14,17 +14,18 @@ use Rattle.segment_head.specs.Stored.{HasImage}
 use Rattle.segment_reads.proofs.GrownLemmas.{each_none, each_rest, none_before}
 use Rattle.segment_reads.proofs.SpanLemmas.{planned_of_file}
 use Rattle.star_answer.proofs.TreeReads.{planned_head}
+use Rattle.segment_head.specs.declared.stored.Stored.{Stored}
 
 -- of an image the rows are few
-pub nothing_read : DocsAreBounded → (query : BoundQuery) (table : Table) → IsValidTable table → (held : Option Files) → IfSome held (λ files. (name : List ℕ) (rows : List (List Value)) → HasImage table files name rows → ReadsPlanned query table false name (ordered table.settings.sorted rows) [])
+pub nothing_read : DocsAreBounded → (query : BoundQuery) (table : Table) → IsValidTable table → (held : Option Files) → IfSome held (λ files. (segment : Stored) (rows : List (List Value)) → HasImage table files segment rows → ReadsPlanned query table false segment (ordered table.settings.sorted rows) [])
 nothing_read law query table valid None = tt
-nothing_read law query table valid (Some files) = λ name rows has. planned_head law query table valid files name rows has [] (λ k d lt. absurd (omega (arith, lt)))
+nothing_read law query table valid (Some files) = λ segment rows has. planned_head law query table valid files segment rows has [] (λ k d lt. absurd (omega (arith, lt)))
 
 -- before the first read
-pub unread : DocsAreBounded → (query : BoundQuery) (table : Table) → IsValidTable table → (held : Option Files) (names : List (List ℕ)) (log : Option (List Entry)) → LogsEach (ReadsPlanned query table false) table held names (length names) log log
-unread law query table valid held names log =
-    each_rest (ReadsPlanned query table false) table held names (planned_of_file query table false) 0 log log (omega arith) (nothing_read law query table valid held) (none_before names log)
-    (each_none (ReadsPlanned query table false) table held names log)
+pub unread : DocsAreBounded → (query : BoundQuery) (table : Table) → IsValidTable table → (held : Option Files) (stored : List Stored) (log : Option (List Entry)) → LogsEach (ReadsPlanned query table false) table held stored (length stored) log log
+unread law query table valid held stored log =
+    each_rest (ReadsPlanned query table false) table held stored (planned_of_file query table false) 0 log log (omega arith) (nothing_read law query table valid held) (none_before stored log)
+    (each_none (ReadsPlanned query table false) table held stored log)
 
 -- what holds of a query in its normal form holds of the one that the text asks
 pub asked_ok : {T E : Type 0} (result : Result T E) (P : BoundQuery → Type 0) (text : Result BoundQuery SqlFault) (bound : BoundQuery) → text ≡ Ok bound → OnOk result (P bound) → OnOk result ((query : BoundQuery) → text ≡ Ok query → P query)

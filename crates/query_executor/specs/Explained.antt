@@ -6,7 +6,8 @@ use Rattle.values.specs.declared.value.Value.{Value}
 use Rattle.table_schema.specs.declared.table.Table.{Table}
 use Rattle.sql_reply.specs.Asked.{Asked, asked}
 use Rattle.sql_reply.specs.SqlReply.{SqlReply}
-use Rattle.segment_head.specs.Stored.{HasImage}
+use Rattle.segment_head.specs.Stored.{HasImage, names_of}
+use Rattle.segment_head.specs.declared.stored.Stored.{Stored}
 use Rattle.query_executor.specs.Lines.{in_order, lines_of, plan_line}
 
 -- the lines for a query, or why there is none
@@ -19,8 +20,8 @@ lines_or table names segments (Err fault) = Err fault
 abbrev pub explained : Table → List ℕ → List (List ℕ) → List (List (List Value)) → SqlReply
 explained table sql names segments = lines_or table names segments (asked table false sql)
 
--- where the files of the segments of these names are images, this is said of them
-abbrev pub IsExplained : Table → Files → List (List ℕ) → List ℕ → SqlReply → Type 0
-IsExplained table files names sql reply =
-    (segments : List (List (List Value))) → AllZip (HasImage table files) names segments
-    → explained table sql names (in_order table segments) ≡ reply
+-- where the files of these segments are images, this is said of them
+abbrev pub IsExplained : Table → Files → List Stored → List ℕ → SqlReply → Type 0
+IsExplained table files stored sql reply =
+    (segments : List (List (List Value))) → AllZip (HasImage table files) stored segments
+    → explained table sql (names_of stored) (in_order table segments) ≡ reply

@@ -1,6 +1,6 @@
 -- What is asked of a query over the segments of a table, and what a pass over them gives, is
 -- refused by and reads.
-use Rattle.std.specs.Prelude.{◌≡◌, ◌≤◌, ◌<◌, ◌-◌, true, false, ℕ, Bool, List, [], Option, None, Result, Ok, Err, IfSome, IsErrOf, OnErr, OnOk, get_or, length}
+use Rattle.std.specs.Prelude.{◌≡◌, ◌≤◌, ◌<◌, ◌-◌, true, false, ℕ, Bool, List, [], Option, None, Result, Ok, Err, IfSome, IsErrOf, OnErr, OnOk, length}
 use Rattle.std.specs.List.{All}
 use Rattle.agg_laws.specs.Numbers.{most_values}
 use Rattle.outside.specs.Files.{Files}
@@ -11,7 +11,7 @@ use Rattle.table_schema.specs.declared.query.BoundQuery.{BoundQuery}
 use Rattle.table_schema.specs.declared.table.Table.{Table}
 use Rattle.group_table.specs.Kept.{IsTableOf, KeptGroups, groups_in}
 use Rattle.scan_engine.specs.Scanned.{HaveAtMost}
-use Rattle.segment_file.specs.Names.{IsSegmentName, file_of}
+use Rattle.segment_file.specs.Names.{IsSegmentName}
 use Rattle.segment_file.specs.declared.part.Part.{Part}
 use Rattle.segment_head.specs.Heads as heads
 use Rattle.segment_plan.specs.Matched.{AreLoaded}
@@ -25,7 +25,8 @@ use Rattle.sql_reply.specs.Reply.{most_groups}
 use Rattle.sql_reply.specs.declared.fault.SqlFault.{SqlFault}
 use Rattle.segment_reads.specs.Logs.{LogsHeadsOf, LogsIn, LogsOf}
 use Rattle.segment_reads.specs.Reads.{LogsEach, LogsOne, ReadsPlanned}
-use Rattle.segment_head.specs.Stored.{HasNoImage}
+use Rattle.segment_head.specs.Stored.{HasNoImage, names_of, segment_at}
+use Rattle.segment_head.specs.declared.stored.Stored.{Stored}
 use Rattle.segment_opening.specs.Calls.{HasOpeningIn, IsQueryOnHead}
 use Rattle.query_executor.specs.Lines.{stats_line}
 use Rattle.query_executor.specs.Steps.{AddsStored, HasGroups, HasLines, IsStoredOverfull}
@@ -40,15 +41,15 @@ pub record AreSegmentsOf (table : Table) (names : List (List ℕ)) : Type 0 wher
   pub named : All IsSegmentName names
   pub at_most : length names ≤ 512
 
--- a query over the segments of these names
-pub record IsQueryOver (bound : BoundQuery) (table : Table) (names : List (List ℕ)) : Type 0 where
-  pub of_table : AreSegmentsOf table names
+-- a query over these segments
+pub record IsQueryOver (bound : BoundQuery) (table : Table) (stored : List Stored) : Type 0 where
+  pub of_table : AreSegmentsOf table (names_of stored)
   pub query : IsValidQuery table bound
 
--- a query over the segment of this name
-pub record IsQueryOf (bound : BoundQuery) (table : Table) (text : List ℕ) : Type 0 where
+-- a query over this segment
+pub record IsQueryOf (bound : BoundQuery) (table : Table) (segment : Stored) : Type 0 where
   pub valid : IsValidTable table
-  pub name : IsSegmentName text
+  pub name : IsSegmentName segment.name
   pub query : IsValidQuery table bound
 
 -- the rows of one segment more may be added to these groups of a query
@@ -65,69 +66,73 @@ pub record IsLoadedFor (query : BoundQuery) (table : Table) (head : heads.Seen) 
 
 -- ---- one segment
 
--- the rows of the segment of this name that satisfy the filter were added to the groups, or it is
--- refused so; and what was read
-pub record AddsSegment {A : Type 0} (query : BoundQuery) (table : Table) (name : List ℕ)
+-- the rows of this segment that satisfy the filter were added to the groups, or it is refused so;
+-- and what was read
+pub record AddsSegment {A : Type 0} (query : BoundQuery) (table : Table) (segment : Stored)
     (groups groups_new : KeptGroups) (old new : Seen) (result : Result A EngineFault) : Type 0 where
-  pub added : OnOk result (AddsStored query table old.held name groups groups_new)
-  pub full : result ≡ Err engine.TooManyGroups → IsStoredOverfull query table old.held name groups
+  pub added : OnOk result (AddsStored query table old.held segment groups groups_new)
+  pub full : result ≡ Err engine.TooManyGroups
+      → IsStoredOverfull query table old.held segment groups
   pub bad : (part : Part) → result ≡ Err (engine.NotASegment part)
-      → IfSome old.held (λ files. HasNoImage table files name)
+      → IfSome old.held (λ files. HasNoImage table files segment)
   pub only_reads : OnlyReads (IsErrOf result engine.ReadFault) old new
-  pub log : LogsIn (file_of name) old.log new.log
+  pub log : LogsIn segment.file old.log new.log
   pub reads : OnOk result
-      (LogsOne (ReadsPlanned query table true) table old.held name old.log new.log)
+      (LogsOne (ReadsPlanned query table true) table old.held segment old.log new.log)
   pub reads_of_fault : OnErr result
-      (LogsOne (ReadsPlanned query table false) table old.held name old.log new.log)
+      (LogsOne (ReadsPlanned query table false) table old.held segment old.log new.log)
 
 -- ---- the segments of a table
 
 -- the file of each segment has a front and bounds, where files are told
-abbrev pub HaveOpenings : Table → Option Files → List (List ℕ) → Type 0
-HaveOpenings table held names = (at : ℕ) → at < length names
-    → HasOpeningIn table held (get_or names at [])
+abbrev pub HaveOpenings : Table → Option Files → List Stored → Type 0
+HaveOpenings table held stored = (at : ℕ) → at < length stored
+    → HasOpeningIn table held (segment_at stored at)
 
 -- the groups of a query over the rows of all segments, and the lines of these where they are wanted
 pub record IsPassOver (query : BoundQuery) (table : Table) (held : Option Files)
-    (names : List (List ℕ)) (wants_lines : Bool) (kept : KeptGroups) (text : List ℕ)
+    (stored : List Stored) (wants_lines : Bool) (kept : KeptGroups) (text : List ℕ)
     : Type 0 where
   pub of_query : IsTableOf query kept
   pub most : kept.most ≡ most_groups
-  pub groups : HasGroups query table held names (length names) kept
+  pub groups : HasGroups query table held stored (length stored) kept
   pub lines : wants_lines ≡ true
-      → HasLines (stats_line query table) table held names (length names) text
+      → HasLines (stats_line query table) table held stored (length stored) text
 
--- what a pass over the segments of these names is refused by, and what it reads of each
-pub record PassReads {A : Type 0} (query : BoundQuery) (table : Table) (names : List (List ℕ))
+-- what a pass over these segments is refused by, and what it reads of each
+pub record PassReads {A : Type 0} (query : BoundQuery) (table : Table) (stored : List Stored)
     (old new : Seen) (result : Result A ExecutorFault) : Type 0 where
   pub bad : (at : ℕ) (part : Part) → result ≡ Err (NotASegment at part)
-      → (at < length names) × IfSome old.held (λ files. HasNoImage table files (get_or names at []))
+      → (at < length stored)
+      × IfSome old.held (λ files. HasNoImage table files (segment_at stored at))
   pub only_reads : OnlyReads (IsErrOf result ReadFault) old new
-  pub log : LogsOf names old.log new.log
-  pub reads : OnOk result (LogsEach (ReadsPlanned query table true) table old.held names
-      (length names) old.log new.log)
-  pub reads_of_fault : OnErr result (LogsEach (ReadsPlanned query table false) table old.held names
-      (length names) old.log new.log)
+  pub log : LogsOf stored old.log new.log
+  pub reads : OnOk result (LogsEach (ReadsPlanned query table true) table old.held stored
+      (length stored) old.log new.log)
+  pub reads_of_fault : OnErr result (LogsEach (ReadsPlanned query table false) table old.held stored
+      (length stored) old.log new.log)
 
 -- the same of a query's text; nothing is read for a text that is no query over the table
-pub record TextReads {A : Type 0} (table : Table) (names : List (List ℕ)) (sql : List ℕ)
+pub record TextReads {A : Type 0} (table : Table) (stored : List Stored) (sql : List ℕ)
     (old new : Seen) (result : Result A ExecutorFault) : Type 0 where
   pub unread : (fault : SqlFault) → asked table false sql ≡ Err fault → new ≡ old
   pub bad : (at : ℕ) (part : Part) → result ≡ Err (NotASegment at part)
-      → (at < length names) × IfSome old.held (λ files. HasNoImage table files (get_or names at []))
+      → (at < length stored)
+      × IfSome old.held (λ files. HasNoImage table files (segment_at stored at))
   pub only_reads : OnlyReads (IsErrOf result ReadFault) old new
-  pub log : LogsOf names old.log new.log
+  pub log : LogsOf stored old.log new.log
   pub reads : OnOk result ((query : BoundQuery) → asked table false sql ≡ Ok query
-      → LogsEach (ReadsPlanned query table true) table old.held names (length names)
+      → LogsEach (ReadsPlanned query table true) table old.held stored (length stored)
       old.log new.log)
   pub reads_of_fault : OnErr result ((query : BoundQuery) → asked table false sql ≡ Ok query
-      → LogsEach (ReadsPlanned query table false) table old.held names (length names)
+      → LogsEach (ReadsPlanned query table false) table old.held stored (length stored)
       old.log new.log)
 
 -- what a look at the heads of these segments is refused by, and what it reads
-pub record LooksAtHeads {A : Type 0} (table : Table) (names : List (List ℕ)) (old new : Seen)
+pub record LooksAtHeads {A : Type 0} (table : Table) (stored : List Stored) (old new : Seen)
     (result : Result A ExecutorFault) : Type 0 where
   pub bad : (at : ℕ) (part : Part) → result ≡ Err (NotASegment at part)
-      → (at < length names) × IfSome old.held (λ files. HasNoImage table files (get_or names at []))
+      → (at < length stored)
+      × IfSome old.held (λ files. HasNoImage table files (segment_at stored at))
   pub only_reads : OnlyReads (IsErrOf result ReadFault) old new
-  pub log : LogsHeadsOf table old.held names old.log new.log
+  pub log : LogsHeadsOf table old.held stored old.log new.log

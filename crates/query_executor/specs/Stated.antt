@@ -9,7 +9,8 @@ use Rattle.table_schema.specs.declared.table.Table.{Table}
 use Rattle.sql_reply.specs.Asked.{Asked, asked}
 use Rattle.sql_reply.specs.SqlReply.{SqlReply, sql_reply, replied}
 use Rattle.query_executor.specs.Lines.{in_order, lines_of, stats_line}
-use Rattle.segment_head.specs.Stored.{HasImage, stored_rows}
+use Rattle.segment_head.specs.Stored.{HasImage, names_of, stored_rows}
+use Rattle.segment_head.specs.declared.stored.Stored.{Stored}
 use Rattle.sql_reply.specs.Reply.{conjuncts_reply}
 
 -- a reply, an empty line, and these lines
@@ -30,16 +31,16 @@ abbrev pub stated : Table → List ℕ → List (List ℕ) → List (List (List 
 stated table sql names segments = stated_by table names segments
     (sql_reply table false sql (flat_map (λ rows. rows) segments)) (asked table false sql)
 
--- where the files of the segments of these names are images, that is the answer
-abbrev pub IsStated : Table → Files → List (List ℕ) → List ℕ → SqlReply → Type 0
-IsStated table files names sql reply =
-    (segments : List (List (List Value))) → AllZip (HasImage table files) names segments
-    → stated table sql names (in_order table segments) ≡ reply
+-- where the files of these segments are images, that is the answer
+abbrev pub IsStated : Table → Files → List Stored → List ℕ → SqlReply → Type 0
+IsStated table files stored sql reply =
+    (segments : List (List (List Value))) → AllZip (HasImage table files) stored segments
+    → stated table sql (names_of stored) (in_order table segments) ≡ reply
 
 -- where the files of the segments are images, this is the reply to the query in its normal form
 -- with a line for each
-abbrev pub IsBoundStated : Table → Files → List (List ℕ) → BoundQuery → List ℕ → Type 0
-IsBoundStated table files names query text =
-    (segments : List (List (List Value))) → AllZip (HasImage table files) names segments
-    → with_lines (lines_of (stats_line query table) names (in_order table segments))
+abbrev pub IsBoundStated : Table → Files → List Stored → BoundQuery → List ℕ → Type 0
+IsBoundStated table files stored query text =
+    (segments : List (List (List Value))) → AllZip (HasImage table files) stored segments
+    → with_lines (lines_of (stats_line query table) (names_of stored) (in_order table segments))
     (replied (conjuncts_reply query (stored_rows table segments))) ≡ Ok text

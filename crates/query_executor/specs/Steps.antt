@@ -23,7 +23,8 @@ use Rattle.sql_reply.specs.declared.fault.SqlFault.TheVariants as sql
 use Rattle.query_executor.specs.declared.fault.ExecutorFault.{ExecutorFault}
 use Rattle.query_executor.specs.declared.fault.ExecutorFault.TheVariants.{NotASegment, ReadFault, Sql}
 use Rattle.query_executor.specs.Lines.{in_order, lines_of}
-use Rattle.segment_head.specs.Stored.{HasImage, stored_rows}
+use Rattle.segment_head.specs.Stored.{HasImage, names_of, stored_rows}
+use Rattle.segment_head.specs.declared.stored.Stored.{Stored}
 use Rattle.segment_opening.specs.Opened.{IsHeadIn}
 
 -- ---- the rows of a segment
@@ -41,19 +42,19 @@ AddsGroups query rows old new =
 -- the groups are still those of the query, and no aggregate is of more values than those of a
 -- segment more; where the segment's file is told to be the image of rows, those of them that
 -- satisfy the filter were added
-pub record AddsStored (query : BoundQuery) (table : Table) (held : Option Files) (name : List ℕ)
+pub record AddsStored (query : BoundQuery) (table : Table) (held : Option Files) (segment : Stored)
     (old new : KeptGroups) : Type 0 where
   pub of_query : IsTableOf query new
   pub most : new.most ≡ old.most
   pub fits : (n : ℕ) → HaveAtMost n (groups_in old) → HaveAtMost (n + 1048576) (groups_in new)
-  pub told : IfSome held (λ files. (rows : List (List Value)) → HasImage table files name rows
+  pub told : IfSome held (λ files. (rows : List (List Value)) → HasImage table files segment rows
       → AddsGroups query (selected_in query table rows) old new)
 
 -- where files are told: if the segment's file is the image of rows, there are more groups with
 -- those of them that satisfy the filter than there may be
-abbrev pub IsStoredOverfull : BoundQuery → Table → Option Files → List ℕ → KeptGroups → Type 0
-IsStoredOverfull query table held name old =
-    IfSome held (λ files. (rows : List (List Value)) → HasImage table files name rows
+abbrev pub IsStoredOverfull : BoundQuery → Table → Option Files → Stored → KeptGroups → Type 0
+IsStoredOverfull query table held segment old =
+    IfSome held (λ files. (rows : List (List Value)) → HasImage table files segment rows
     → IsOverfull query (selected_in query table rows) old)
 
 -- ---- the rows of segments
@@ -67,45 +68,45 @@ fault_at at engine.NoMemory = Sql sql.NoMemory
 
 -- these are the groups over the rows of the first so many segments, where files are told and are
 -- images
-abbrev pub HasGroups : BoundQuery → Table → Option Files → List (List ℕ) → ℕ → KeptGroups → Type 0
-HasGroups query table held names n groups =
+abbrev pub HasGroups : BoundQuery → Table → Option Files → List Stored → ℕ → KeptGroups → Type 0
+HasGroups query table held stored n groups =
     IfSome held (λ files. (segments : List (List (List Value)))
-    → AllZip (HasImage table files) names segments
+    → AllZip (HasImage table files) stored segments
     → groups_in groups ≡ groups_of (shape_of query) (selected query
     (stored_rows table (take n segments))))
 
 -- there are more groups over the rows of all segments than so many, where files are told and are
 -- images
-abbrev pub HaveTooMany : BoundQuery → Table → Option Files → List (List ℕ) → ℕ → Type 0
-HaveTooMany query table held names most =
+abbrev pub HaveTooMany : BoundQuery → Table → Option Files → List Stored → ℕ → Type 0
+HaveTooMany query table held stored most =
     IfSome held (λ files. (segments : List (List (List Value)))
-    → AllZip (HasImage table files) names segments
+    → AllZip (HasImage table files) stored segments
     → most < finite.len (groups_of (shape_of query) (selected query (stored_rows table segments))))
 
 -- ---- the plans of segments
 
 -- the head of a segment was opened as far as its plan for a query and what is said of it ask, and
 -- this is the plan
-pub record IsPlannedIn (query : BoundQuery) (table : Table) (held : Option Files) (name : List ℕ)
+pub record IsPlannedIn (query : BoundQuery) (table : Table) (held : Option Files) (segment : Stored)
     (head : Seen) (plan : SegmentPlan) : Type 0 where
   pub known : IsPlannable query head
   pub plan_is : plan ≡ plan_of query table head
   pub detailed : IsDetailed query table head plan
-  pub image : IsHeadIn table held name head
+  pub image : IsHeadIn table held segment head
 
 -- where files are told: if the segment's file is the image of rows, its line was added
-abbrev pub AddsLine : (List ℕ → List (List Value) → List ℕ) → Table → Option Files → List ℕ → List ℕ
+abbrev pub AddsLine : (List ℕ → List (List Value) → List ℕ) → Table → Option Files → Stored → List ℕ
     → List ℕ → Type 0
-AddsLine line table held name old new =
-    IfSome held (λ files. (rows : List (List Value)) → HasImage table files name rows
-    → new ≡ old ++ line name (ordered table.settings.sorted rows))
+AddsLine line table held segment old new =
+    IfSome held (λ files. (rows : List (List Value)) → HasImage table files segment rows
+    → new ≡ old ++ line segment.name (ordered table.settings.sorted rows))
 
 -- where files are told and are images, these are the lines of all segments but those from the n-th
 -- on
-abbrev pub HasLines : (List ℕ → List (List Value) → List ℕ) → Table → Option Files → List (List ℕ)
+abbrev pub HasLines : (List ℕ → List (List Value) → List ℕ) → Table → Option Files → List Stored
     → ℕ → List ℕ → Type 0
-HasLines line table held names n text =
+HasLines line table held stored n text =
     IfSome held (λ files. (segments : List (List (List Value)))
-    → AllZip (HasImage table files) names segments
-    → text ++ lines_of line (drop n names) (drop n (in_order table segments))
-    ≡ lines_of line names (in_order table segments))
+    → AllZip (HasImage table files) stored segments
+    → text ++ lines_of line (drop n (names_of stored)) (drop n (in_order table segments))
+    ≡ lines_of line (names_of stored) (in_order table segments))

@@ -1,8 +1,8 @@
 //! The rows of a segment whose head is loaded are added to the groups of a query.
-ghost use Rattle.std.specs.Prelude.{IfOk, List, ℕ};
+ghost use Rattle.std.specs.Prelude.{IfOk};
 ghost use Rattle.outside.specs.Seen.{seen};
-ghost use Rattle.segment_file.specs.Names.{file_of};
 ghost use Rattle.segment_head.specs.Heads.{AreIn};
+ghost use Rattle.segment_head.specs.declared.stored.Stored.{Stored};
 ghost use Rattle.segment_reads.specs.Looked.{IsDoneIn};
 ghost use Rattle.segment_opening.specs.Opened.{IsHeadIn, IsSpreadIn};
 ghost use Rattle.query_executor.specs.Passes.{AddsSegment, HasRoomFor, IsLoadedFor};
@@ -28,14 +28,14 @@ pub(crate) fn add_planned<S: Shelf>(
 ) -> Result<Scanned, EngineFault>
     requires room { HasRoomFor query.now groups.old }
     requires loaded { IsLoadedFor query.now table.now head.now }
-    ensures adds { (name : List ℕ) → IsHeadIn table.now (S.held shelf.old) name head.now →
-        IsSpreadIn table.now (S.held shelf.old) name head.now →
-        AreIn (file_of name) head.now.sections →
-        AddsSegment query.now table.now name groups.old groups.new
+    ensures adds { (segment : Stored) → IsHeadIn table.now (S.held shelf.old) segment head.now →
+        IsSpreadIn table.now (S.held shelf.old) segment head.now →
+        AreIn segment.file head.now.sections →
+        AddsSegment query.now table.now segment groups.old groups.new
         (seen S.Shelf shelf.old) (seen S.Shelf shelf.new) result }
-    ensures done { IfOk result (λ done. (name : List ℕ) →
-        IsHeadIn table.now (S.held shelf.old) name head.now →
-        IsDoneIn query.now table.now (S.held shelf.old) name done.plan done.docs) }
+    ensures done { IfOk result (λ done. (segment : Stored) →
+        IsHeadIn table.now (S.held shelf.old) segment head.now →
+        IsDoneIn query.now table.now (S.held shelf.old) segment done.plan done.docs) }
 {
     docs_bound_law();
     head_tells_law();

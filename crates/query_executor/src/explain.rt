@@ -1,10 +1,11 @@
 //! What is said of the plans of the segments of a table for a query.
-ghost use Rattle.std.specs.Prelude.{◌≡◌, ◌≢◌, false, Ok, Err, IfOk, IfSome, OnOk, length};
+ghost use Rattle.std.specs.Prelude.{◌≡◌, ◌≢◌, false, Ok, Err, IfOk, IfSome, OnOk, length, map};
 ghost use Rattle.outside.specs.Seen.{seen};
 ghost use Rattle.sql_reply.specs.Asked.{asked};
 ghost use Rattle.sql_reply.specs.SqlReply.{IsOfText};
 ghost use Rattle.sql_reply.specs.declared.fault.SqlFault.{SqlFault};
 ghost use Rattle.sql_reply.specs.declared.fault.SqlFault.TheVariants.{NoMemory};
+ghost use Rattle.segment_head.specs.Stored.{live};
 ghost use Rattle.query_executor.specs.Explained.{IsExplained};
 ghost use Rattle.query_executor.specs.Lines.{plan_line};
 ghost use Rattle.query_executor.specs.Passes.{AreSegmentsOf, HaveOpenings, IsQueryOver, LooksAtHeads};
@@ -15,6 +16,7 @@ use crate::ExecutorFault;
 use crate::planned::explain_segment;
 use crate::segment_fault::fault_at;
 use outside::{Bytes, Name, Seq, Shelf};
+use segment_head::{Stored, live_segments};
 use sql_reply::bound_query;
 use std::alloc::Global;
 use table_schema::{BoundQuery, Table};
@@ -31,41 +33,44 @@ pub fn explain_query<S: Shelf>(
 ) -> Result<Bytes, ExecutorFault>
     requires { AreSegmentsOf table.now names.now }
     ensures reply { IfOk result (λ text. IfSome (S.held shelf.old) (λ files.
-        IsExplained table.now files names.now sql.now (Ok text))) }
+        IsExplained table.now files (map live names.now) sql.now (Ok text))) }
     // What is wrong with the query's text is known before anything is read.
     ensures of_text { (fault : SqlFault) → result ≡ Err (Sql fault) → fault ≢ NoMemory →
         IsOfText fault × (seen S.Shelf shelf.new ≡ seen S.Shelf shelf.old)
         × (asked table.now false sql.now ≡ Err fault) }
-    ensures opens { OnOk result (HaveOpenings table.now (S.held shelf.old) names.now) }
-    ensures looks { LooksAtHeads table.now names.now
+    ensures opens { OnOk result (HaveOpenings table.now (S.held shelf.old) (map live names.now)) }
+    ensures looks { LooksAtHeads table.now (map live names.now)
         (seen S.Shelf shelf.old) (seen S.Shelf shelf.new) result }
 {
     match bound_query(alloc, sql, table, false) {
-        Ok(bound) => explain_bound(alloc, shelf, table, names, &bound),
+        Ok(bound) => {
+            let stored = live_segments(alloc, names)?;
+            explain_bound(alloc, shelf, table, stored.as_slice(), &bound)
+        }
         Err(fault) => Err(ExecutorFault::Sql(fault)),
     }
 }
 
-// The lines of the segments of these names for a query in its normal form.
+// The lines of these segments for a query in its normal form.
 fn explain_bound<S: Shelf>(
     alloc: Global,
     shelf: &mut S,
     table: &Table,
-    names: &[Name],
+    stored: &[Stored],
     query: &BoundQuery,
 ) -> Result<Bytes, ExecutorFault>
-    requires { IsQueryOver query.now table.now names.now }
+    requires { IsQueryOver query.now table.now stored.now }
     ensures lines { IfOk result (λ text.
-        HasLines (plan_line query.now table.now) table.now (S.held shelf.old) names.now
-        (length names.now) text) }
+        HasLines (plan_line query.now table.now) table.now (S.held shelf.old) stored.now
+        (length stored.now) text) }
     ensures never_wrong { (fault : SqlFault) → result ≡ Err (Sql fault) → fault ≡ NoMemory }
-    ensures opens { OnOk result (HaveOpenings table.now (S.held shelf.old) names.now) }
-    ensures looks { LooksAtHeads table.now names.now
+    ensures opens { OnOk result (HaveOpenings table.now (S.held shelf.old) stored.now) }
+    ensures looks { LooksAtHeads table.now stored.now
         (seen S.Shelf shelf.old) (seen S.Shelf shelf.new) result }
 {
     let mut text = Vec::new(alloc);
-    'names: for at in 0..names.len() {
-        match explain_segment(alloc, shelf, table, names[at].as_str(), query, &mut text) {
+    'stored: for at in 0..stored.len() {
+        match explain_segment(alloc, shelf, table, &stored[at], query, &mut text) {
             Ok(()) => {}
             Err(fault) => return Err(fault_at(at as u32, fault)),
         }

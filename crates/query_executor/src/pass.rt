@@ -17,8 +17,8 @@ use crate::scanned::Scanned;
 use crate::segment::add_segment;
 use crate::segment_fault::fault_at;
 use group_table::GroupTable;
-use outside::{Name, Shelf};
-use segment_head::EngineFault;
+use outside::Shelf;
+use segment_head::{EngineFault, Stored};
 use segment_plan::push_word;
 use sql_reply::MOST_GROUPS;
 use star_answer::docs_bound_law;
@@ -52,30 +52,30 @@ impl Pass {
     }
 }
 
-/// The groups of a query over the rows of the segments of these names, one after the other, and
-/// the line of each where that is wanted.
+/// The groups of a query over the rows of these segments, one after the other, and the line of
+/// each where that is wanted.
 pub(crate) fn pass_over<S: Shelf>(
     alloc: Global,
     shelf: &mut S,
     table: &Table,
-    names: &[Name],
+    stored: &[Stored],
     query: &BoundQuery,
     wants_lines: bool,
 ) -> Result<Pass, ExecutorFault>
-    requires { IsQueryOver query.now table.now names.now }
-    ensures made { IfOk result (λ pass. IsPassOver query.now table.now (S.held shelf.old) names.now
+    requires { IsQueryOver query.now table.now stored.now }
+    ensures made { IfOk result (λ pass. IsPassOver query.now table.now (S.held shelf.old) stored.now
         wants_lines pass.groups pass.lines.items) }
     ensures refused { (fault : SqlFault) → result ≡ Err (Sql fault) → fault ≢ NoMemory →
         (fault ≡ TooManyGroups most_groups)
-        × HaveTooMany query.now table.now (S.held shelf.old) names.now most_groups }
-    ensures opens { OnOk result (HaveOpenings table.now (S.held shelf.old) names.now) }
-    ensures passes { PassReads query.now table.now names.now
+        × HaveTooMany query.now table.now (S.held shelf.old) stored.now most_groups }
+    ensures opens { OnOk result (HaveOpenings table.now (S.held shelf.old) stored.now) }
+    ensures passes { PassReads query.now table.now stored.now
         (seen S.Shelf shelf.old) (seen S.Shelf shelf.new) result }
 {
     docs_bound_law();
     let mut pass = Pass::new(alloc, query, wants_lines)?;
-    'names: for at in 0..names.len() {
-        match pass_one(alloc, shelf, table, names[at].as_str(), query, &mut pass) {
+    'stored: for at in 0..stored.len() {
+        match pass_one(alloc, shelf, table, &stored[at], query, &mut pass) {
             Ok(()) => {}
             Err(fault) => return Err(fault_at(at as u32, fault)),
         }
@@ -83,48 +83,48 @@ pub(crate) fn pass_over<S: Shelf>(
     Ok(pass)
 }
 
-// Adds the rows of the segment of this name, and its line where that is wanted.
+// Adds the rows of a segment, and its line where that is wanted.
 fn pass_one<S: Shelf>(
     alloc: Global,
     shelf: &mut S,
     table: &Table,
-    name: &str,
+    segment: &Stored,
     query: &BoundQuery,
     pass: &mut Pass,
 ) -> Result<(), EngineFault>
-    requires of_table { IsQueryOf query.now table.now name.now }
+    requires of_table { IsQueryOf query.now table.now segment.now }
     requires room { HasRoomFor query.now pass.old.groups }
-    ensures adds { AddsSegment query.now table.now name.now pass.old.groups pass.new.groups
+    ensures adds { AddsSegment query.now table.now segment.now pass.old.groups pass.new.groups
         (seen S.Shelf shelf.old) (seen S.Shelf shelf.new) result }
     ensures lines { OnOk result (pass.old.wants_lines ≡ true →
-        AddsLine (stats_line query.now table.now) table.now (S.held shelf.old) name.now
+        AddsLine (stats_line query.now table.now) table.now (S.held shelf.old) segment.now
         pass.old.lines.items pass.new.lines.items) }
     ensures wants { pass.new.wants_lines ≡ pass.old.wants_lines }
-    ensures opens { OnOk result (HasOpeningIn table.now (S.held shelf.old) name.now) }
+    ensures opens { OnOk result (HasOpeningIn table.now (S.held shelf.old) segment.now) }
 {
-    let done = match add_segment(alloc, shelf, table, name, query, &mut pass.groups) {
+    let done = match add_segment(alloc, shelf, table, segment, query, &mut pass.groups) {
         Ok(done) => done,
         Err(fault) => return Err(fault),
     };
-    push_if(alloc, pass.wants_lines, name, &done, &mut pass.lines)?;
+    push_if(alloc, pass.wants_lines, segment, &done, &mut pass.lines)?;
     Ok(())
 }
 
-// Adds the line of the segment of this name, if that is wanted.
+// Adds the line of a segment, if that is wanted.
 fn push_if(
     alloc: Global,
     wanted: bool,
-    name: &str,
+    segment: &Stored,
     done: &Scanned,
     lines: &mut Vec<u8>,
 ) -> Result<(), AllocError>
     ensures { OnOk result (wanted ≡ true → lines.new.items
-        ≡ lines.old.items ++ line_by name.now (stats_text done.now.plan done.now.docs)) }
+        ≡ lines.old.items ++ line_by segment.now.name (stats_text done.now.plan done.now.docs)) }
 {
     if !wanted {
         return Ok(());
     }
-    lines.extend_from_slice(name.as_bytes())?;
+    lines.extend_from_slice(segment.name.as_slice())?;
     lines.push(b',')?;
     push_word(alloc, &done.plan, lines)?;
     lines.push(b',')?;

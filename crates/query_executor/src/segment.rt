@@ -10,34 +10,34 @@ use crate::scanned::{Scanned, nothing};
 use eligibility::pick;
 use group_table::GroupTable;
 use outside::Shelf;
-use segment_head::EngineFault;
+use segment_head::{EngineFault, Stored};
 use segment_opening::{load_wanted, open_segment};
 use segment_plan::{SegmentPlan, head_tells_law, plan_over_law, prune, pruned_law};
 use star_answer::docs_bound_law;
 use std::alloc::Global;
 use table_schema::{BoundQuery, Table};
 
-/// Adds the rows of the segment of this name that satisfy the filter of a query to its groups, by a
-/// star-tree where one serves the query. Of a segment that its bounds exclude no more than the
-/// front and the bounds is read.
+/// Adds the rows of a segment that satisfy the filter of a query to its groups, by a star-tree
+/// where one serves the query. Of a segment that its bounds exclude no more than the front and the
+/// bounds is read.
 pub(crate) fn add_segment<S: Shelf>(
     alloc: Global,
     shelf: &mut S,
     table: &Table,
-    name: &str,
+    segment: &Stored,
     query: &BoundQuery,
     groups: &mut GroupTable,
 ) -> Result<Scanned, EngineFault>
-    requires of_table { IsQueryOf query.now table.now name.now }
+    requires of_table { IsQueryOf query.now table.now segment.now }
     requires room { HasRoomFor query.now groups.old }
-    ensures adds { AddsSegment query.now table.now name.now groups.old groups.new
+    ensures adds { AddsSegment query.now table.now segment.now groups.old groups.new
         (seen S.Shelf shelf.old) (seen S.Shelf shelf.new) result }
-    ensures done { IfOk result (λ done. IsDoneIn query.now table.now (S.held shelf.old) name.now
+    ensures done { IfOk result (λ done. IsDoneIn query.now table.now (S.held shelf.old) segment.now
         done.plan done.docs) }
-    ensures opens { OnOk result (HasOpeningIn table.now (S.held shelf.old) name.now) }
+    ensures opens { OnOk result (HasOpeningIn table.now (S.held shelf.old) segment.now) }
 {
     docs_bound_law();
-    let mut head = match open_segment(alloc, shelf, table, name) {
+    let mut head = match open_segment(alloc, shelf, table, segment) {
         Ok(head) => head,
         Err(fault) => return Err(fault),
     };

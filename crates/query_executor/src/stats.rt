@@ -1,10 +1,11 @@
 //! The reply to a query over the segments of a table, with a line for each.
-ghost use Rattle.std.specs.Prelude.{◌≡◌, ◌≢◌, ◌∷◌, ◌++◌, false, Ok, Err, IfOk, IfSome, OnOk};
+ghost use Rattle.std.specs.Prelude.{◌≡◌, ◌≢◌, ◌∷◌, ◌++◌, false, Ok, Err, IfOk, IfSome, OnOk, map};
 ghost use Rattle.outside.specs.Seen.{seen};
 ghost use Rattle.sql_reply.specs.Asked.{asked};
 ghost use Rattle.sql_reply.specs.SqlReply.{IsOfText};
 ghost use Rattle.sql_reply.specs.declared.fault.SqlFault.{SqlFault};
 ghost use Rattle.sql_reply.specs.declared.fault.SqlFault.TheVariants.{NoMemory};
+ghost use Rattle.segment_head.specs.Stored.{live};
 ghost use Rattle.query_executor.specs.Answers.{IsBoundReply};
 ghost use Rattle.query_executor.specs.Passes.{AreSegmentsOf, HaveOpenings, IsQueryOver, PassReads, TextReads};
 ghost use Rattle.query_executor.specs.Stated.{IsBoundStated, IsStated};
@@ -13,6 +14,7 @@ ghost use Rattle.query_executor.specs.declared.fault.ExecutorFault.TheVariants.{
 use crate::ExecutorFault;
 use crate::pass::pass_over;
 use outside::{Bytes, Name, Seq, Shelf};
+use segment_head::{Stored, live_segments};
 use sql_reply::{SqlFault, answer, bound_query};
 use star_answer::docs_bound_law;
 use std::alloc::{AllocError, Global};
@@ -29,42 +31,45 @@ pub fn stats_query<S: Shelf>(
 ) -> Result<Bytes, ExecutorFault>
     requires { AreSegmentsOf table.now names.now }
     ensures reply { IfOk result (λ text. IfSome (S.held shelf.old) (λ files.
-        IsStated table.now files names.now sql.now (Ok text))) }
+        IsStated table.now files (map live names.now) sql.now (Ok text))) }
     ensures refused { (fault : SqlFault) → result ≡ Err (Sql fault) → fault ≢ NoMemory →
         IfSome (S.held shelf.old) (λ files.
-        IsStated table.now files names.now sql.now (Err fault)) }
+        IsStated table.now files (map live names.now) sql.now (Err fault)) }
     ensures of_text { (fault : SqlFault) → result ≡ Err (Sql fault) → IsOfText fault →
         asked table.now false sql.now ≡ Err fault }
-    ensures opens { OnOk result (HaveOpenings table.now (S.held shelf.old) names.now) }
-    ensures passes { TextReads table.now names.now sql.now
+    ensures opens { OnOk result (HaveOpenings table.now (S.held shelf.old) (map live names.now)) }
+    ensures passes { TextReads table.now (map live names.now) sql.now
         (seen S.Shelf shelf.old) (seen S.Shelf shelf.new) result }
 {
     docs_bound_law();
     match bound_query(alloc, sql, table, false) {
-        Ok(bound) => stats_of_bound(alloc, shelf, table, names, &bound),
+        Ok(bound) => {
+            let stored = live_segments(alloc, names)?;
+            stats_of_bound(alloc, shelf, table, stored.as_slice(), &bound)
+        }
         Err(fault) => Err(ExecutorFault::Sql(fault)),
     }
 }
 
-// The reply to a query in its normal form over the segments of these names, and their lines.
+// The reply to a query in its normal form over these segments, and their lines.
 fn stats_of_bound<S: Shelf>(
     alloc: Global,
     shelf: &mut S,
     table: &Table,
-    names: &[Name],
+    stored: &[Stored],
     query: &BoundQuery,
 ) -> Result<Bytes, ExecutorFault>
-    requires { IsQueryOver query.now table.now names.now }
+    requires { IsQueryOver query.now table.now stored.now }
     ensures reply { IfOk result (λ text. IfSome (S.held shelf.old) (λ files.
-        IsBoundStated table.now files names.now query.now text)) }
+        IsBoundStated table.now files stored.now query.now text)) }
     ensures refused { (fault : SqlFault) → result ≡ Err (Sql fault) → fault ≢ NoMemory →
         (¬ IsOfText fault) × IfSome (S.held shelf.old) (λ files.
-        IsBoundReply table.now files names.now query.now (Err fault)) }
-    ensures opens { OnOk result (HaveOpenings table.now (S.held shelf.old) names.now) }
-    ensures passes { PassReads query.now table.now names.now
+        IsBoundReply table.now files stored.now query.now (Err fault)) }
+    ensures opens { OnOk result (HaveOpenings table.now (S.held shelf.old) stored.now) }
+    ensures passes { PassReads query.now table.now stored.now
         (seen S.Shelf shelf.old) (seen S.Shelf shelf.new) result }
 {
-    let pass = match pass_over(alloc, shelf, table, names, query, true) {
+    let pass = match pass_over(alloc, shelf, table, stored, query, true) {
         Ok(pass) => pass,
         Err(fault) => return Err(fault),
     };

@@ -11,6 +11,8 @@ use Rattle.segment_file.specs.declared.section.Section.{Section}
 use Rattle.segment_file.specs.Bounds.{bounds_bytes, bounds_of, ends_of}
 use Rattle.segment_file.specs.Front.{Extent, extents_from}
 use Rattle.segment_head.specs.Heads.{placed}
+use Rattle.segment_head.specs.Stored.{live}
+use Rattle.segment_head.specs.declared.stored.Stored.{Stored}
 use Rattle.segment_file.specs.Reading.{count_at}
 use Rattle.segment_file.proofs.Tails.{counted_at}
 use Rattle.segment_file.proofs.Loops.{extents_next, extents_none}
@@ -73,3 +75,14 @@ counts_step ds columns at n d out new all lt is n_is counted so_far =
 
 pub counts_stop : (ds : List Distinct) (columns : List ℕ) (at : ℕ) (out : List ℕ) → length columns ≤ at → out ≡ map (count_at ds) (take at columns) → out ≡ map (count_at ds) columns
 counts_stop ds columns at out over so_far = so_far ∙ ap (map (count_at ds)) (take_all at columns over)
+
+-- ---- segments that a store publishes
+
+pub live_step : (names : List (List ℕ)) (at : ℕ) (name : List ℕ) (out new : List Stored) → at < length names → name ≡ get_or names at name → new ≡ out ++ live name ∷ [] → out ≡ map live (take at names) → new ≡ map live (take (at + 1) names)
+live_step names at name out new lt is kept so_far =
+    kept
+    ∙ (λ i. so_far i ++ live (is i) ∷ [])
+    ∙ sym (ap (map live) (take_more names at name lt) ∙ map-append live (take at names) (get_or names at name ∷ []))
+
+pub live_stop : (names : List (List ℕ)) (at : ℕ) (out : List Stored) → length names ≤ at → out ≡ map live (take at names) → out ≡ map live names
+live_stop names at out over so_far = so_far ∙ ap (map live) (take_all at names over)

@@ -13,6 +13,8 @@ use Rattle.data_types.specs.declared.kind.FieldKind.{FieldKind}
 use Rattle.data_types.specs.declared.kind.FieldKind.TheVariants.{Long}
 use Rattle.outside.specs.Files.{Files, bytes_at, bytes_of}
 use Rattle.outside.specs.Reads.{Entry, LogsUpTo}
+use Rattle.outside.specs.declared.place.Place.{Place}
+use Rattle.bit_column.specs.Sections.{section}
 use Rattle.outside.proofs.ReadLemmas.{LogsThrough-none}
 use Rattle.value_ids.specs.Dictionary.{Distinct}
 use Rattle.dictionary.specs.Spelling.{body, counted, spelling}
@@ -328,6 +330,11 @@ spelled_there k k2 r r2 b b2 d ek er eb is = subst (λ x. IsSpelled x r2 b2 d) e
 pub bad_fault : (reason : DictFault) (result : HeadFault) (p : Part) → (reason ≡ dict.NoMemory → result ≡ fault.NoMemory) → result ≡ fault.NotASegment p → reason ≡ dict.BadDictionary
 bad_fault dict.BadDictionary result p memory is = refl
 bad_fault dict.NoMemory result p memory is = let e : result ≡ fault.NoMemory = memory refl in absurd cc
+
+-- where the bytes of a section spell no dictionary
+pub none_there : (held : Option Files) (kind : FieldKind) (rows : ℕ) (bytes : List ℕ) (place : Place) → IfSome held (λ files. bytes ≡ section files place) → ((d : Distinct) → ¬ IsSpelled kind rows bytes d) → IfSome held (λ files. (d : Distinct) → ¬ IsSpelled kind rows (section files place) d)
+none_there None kind rows bytes place is none = tt
+none_there (Some files) kind rows bytes place is none = λ d spelled. none d (subst (λ b. IsSpelled kind rows b d) (sym is) spelled)
 
 -- nothing is read of a section
 pub none_read : (o : Option Section) (count : Section → ℕ) (log : Option (List Entry)) → IfSome o (λ s. LogsUpTo s.place.file s.place.offset (s.place.offset + count s) log log)

@@ -1,20 +1,24 @@
 -- What the calls that read a head, or a part of one, ask, tell, are refused by and read.
-use Rattle.std.specs.Prelude.{◌≡◌, ◌≤◌, ◌<◌, ◌^◌, ◌⊎◌, ℕ, List, [], length, Option, Some, Result, IfErr, IfOk, IfSome, IsErrOf, slice_get, slice_index_or}
-use Rattle.outside.specs.Files.{Files, bytes_of}
+use Rattle.std.specs.Prelude.{◌≡◌, ◌≤◌, ◌<◌, ◌+◌, ◌^◌, ◌⊎◌, ℕ, List, [], length, Option, Some, Result, IfErr, IfOk, IfSome, IsErrOf, slice_get, slice_index_or}
+use Rattle.outside.specs.Files.{EndsBefore, Files, bytes_of}
 use Rattle.outside.specs.Seen as outside
 use Rattle.outside.specs.Seen.{OnlyReads}
 use Rattle.table_schema.specs.ValidTable.{IsValidTable}
 use Rattle.table_schema.specs.declared.table.Table.{Table}
+use Rattle.value_ids.specs.Dictionary.{Distinct}
+use Rattle.bit_column.specs.Sections.{section}
 use Rattle.segment_file.specs.declared.bounds.Ends.{Ends}
+use Rattle.segment_file.specs.declared.section.Section.{Section}
 use Rattle.segment_file.specs.Bounds.{AreBounds, bounded}
+use Rattle.segment_file.specs.Columns.{kind_at}
 use Rattle.segment_file.specs.Front.{Front, file_end}
 use Rattle.segment_file.specs.Parts.{sections_of}
-use Rattle.segment_file.specs.Rules.{FailsAt, HasFront, KeepsRules, heads_in}
+use Rattle.segment_file.specs.Rules.{FailsAt, HasFront, IsSpelled, KeepsRules, heads_in}
 use Rattle.segment_file.specs.declared.fault.HeadFault.{HeadFault}
 use Rattle.segment_file.specs.declared.fault.HeadFault.TheVariants.{NotASegment, ReadFault}
 use Rattle.segment_file.specs.declared.part.Part.{Part}
 use Rattle.segment_file.specs.declared.part.Part.TheVariants.{Bounds, Dictionary, Head, Nodes}
-use Rattle.segment_head.specs.Heads.{AreIn, IsBare, IsHead, IsHeadOf, IsOpened, IsPartOf, LogsHead, LogsOpened, OfWhole, Seen, split_of}
+use Rattle.segment_head.specs.Heads.{AreIn, IsBare, IsHead, IsHeadOf, IsOpened, IsPartOf, LogsHead, LogsOpened, OfWhole, Seen, dictionary_section, split_of}
 
 -- ---- what is asked
 
@@ -108,6 +112,16 @@ pub record ReadsPart {A : Type 0} (P : A → Seen → Type 0) (table : Table) (h
 -- one of these
 abbrev pub Names : {A : Type 0} → (Part → Type 0) → Result A HeadFault → Type 0
 Names P result = IfErr result (λ fault. (p : Part) → fault ≡ NotASegment p → P p)
+
+-- where the dictionary of a column is loaded: the head, where files are told one that ends before
+-- the dictionary does, or the dictionary, whose bytes there are those of none
+pub record FailsLoading (table : Table) (held : Option Files) (head : Seen) (column : ℕ) (p : Part)
+    : Type 0 where
+  pub own : Section
+  pub at : dictionary_section head column ≡ Some own
+  pub fails : ((p ≡ Head) × EndsBefore held own.place.file (own.place.offset + own.place.length))
+      ⊎ ((p ≡ Dictionary column) × IfSome held (λ files. (d : Distinct)
+      → ¬ IsSpelled (kind_at table column) head.rows (section files own.place) d))
 
 -- where the number of values of this column is read: the head, where the file ends too early, or
 -- the column's dictionary

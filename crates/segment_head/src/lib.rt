@@ -10,6 +10,7 @@ mod laws;
 mod loading;
 mod opening;
 mod stepwise;
+mod stored;
 mod tree_reading;
 mod trees;
 
@@ -20,4 +21,5 @@ pub use laws::head_tells_trees_law;
 pub use opening::read_head;
 pub use outside::NoMemory;
 pub use stepwise::open_head;
+pub use stored::{Stored, live_segments};
 pub use tree_reading::OpenTree;

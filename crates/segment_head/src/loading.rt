@@ -2,7 +2,7 @@
 ghost use Rattle.std.specs.Prelude.{◌≡◌, ◌≤◌, ◌<◌, ◌+◌, IfOk, IfSome, MatchOption, OnErr, None, Some, length, slice_get};
 ghost use Rattle.outside.specs.Reads.{LogsUpTo};
 ghost use Rattle.outside.specs.Seen.{seen};
-ghost use Rattle.segment_head.specs.Calls.{IsColumnOf, IsCountPart, Names, ReadsPart};
+ghost use Rattle.segment_head.specs.Calls.{FailsLoading, IsColumnOf, IsCountPart, Names, ReadsPart};
 ghost use Rattle.segment_head.specs.Heads.{HasCount, IsHeadOf, IsLoaded, IsPartOf, Loads, dictionary_section, with_dictionary};
 
 use crate::Head;
@@ -33,6 +33,7 @@ impl Head {
             (S.log shelf.old) (S.log shelf.new)) }
         ensures loaded { IsLoaded self.old column →
             (self.new ≡ self.old) × (S.log shelf.new ≡ S.log shelf.old) }
+        ensures part { Names (FailsLoading table.now (S.held shelf.old) self.old column) result }
     {
         if self.loaded(column).is_some() {
             return Ok(());
@@ -119,6 +120,7 @@ impl Head {
         ensures log { IfSome (dictionary_section self.now column) (λ s.
             LogsUpTo s.place.file s.place.offset (s.place.offset + s.place.length)
             (S.log shelf.old) (S.log shelf.new)) }
+        ensures part { Names (FailsLoading table.now (S.held shelf.old) self.now column) result }
     {
         let place = &self.dictionary_section(column).place;
         let file = place.file.as_str();

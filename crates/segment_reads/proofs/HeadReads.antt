@@ -22,7 +22,7 @@ use Rattle.segment_file.specs.declared.section.Section.{Section}
 use Rattle.segment_file.specs.Front.{Front, extents_from, extents_of, front_size, head_end}
 use Rattle.segment_head.specs.Heads.{IsWithin, LogsCount, LogsCounts, LogsTree, Seen, placed, split_of}
 use Rattle.segment_file.specs.Image.{front_of, image, section_of, sections_of_rows}
-use Rattle.segment_file.specs.Names.{IsSegmentName, file_of}
+use Rattle.segment_file.specs.Names.{IsSegmentName}
 use Rattle.segment_file.specs.Ordered.{ordered}
 use Rattle.segment_file.specs.Parts.{columns_of, head_sections, raw_sections, sections_of, tail_sections, trees_of}
 use Rattle.segment_file.specs.Rules.{HasFront}
@@ -39,6 +39,7 @@ use Rattle.segment_reads.specs.Docs.{docs_read}
 use Rattle.segment_reads.specs.Logs.{EndsBy, IsHeadRead, LogsThat}
 use Rattle.segment_reads.specs.Reads.{AreBytes, ReadsBy, ReadsPlanned, bytes_read, forward_span, raw_span, star_span}
 use Rattle.segment_head.specs.Stored.{HasImage}
+use Rattle.segment_head.specs.declared.stored.Stored.{Stored}
 use Rattle.segment_head.proofs.SectionLemmas.{if_some, section_at, first_true, rest_true}
 use Rattle.segment_reads.proofs.LogLemmas.{entries_none, entries_then, fewer_summed, through_ends}
 use Rattle.segment_reads.proofs.PlaceLemmas.{taken_more}
@@ -47,22 +48,22 @@ use Rattle.segment_reads.proofs.SpanLemmas.{before_part}
 -- ---- a head that was opened
 
 -- where the head of the file of rows in order ends
-abbrev pub ends_at : Table → List ℕ → List (List Value) → ℕ
-ends_at table name os = head_end table name (front_of 1 table os)
+abbrev pub ends_at : Table → Stored → List (List Value) → ℕ
+ends_at table segment os = head_end table segment.name (front_of 1 table os)
 
-pub opened_entry : (table : Table) (files : Files) (name : List ℕ) (rows : List (List Value)) → IsValidTable table → IsSegmentName name → HasImage table files name rows → (entry : Entry) → IsHeadRead table (Some files) name entry
-    → EndsBy (file_of name) (ends_at table name (ordered table.settings.sorted rows)) entry
-opened_entry table files name rows valid named has entry read = record { file_is = read.file_is; ends = by read.within }
+pub opened_entry : (table : Table) (files : Files) (segment : Stored) (rows : List (List Value)) → IsValidTable table → IsSegmentName segment.name → HasImage table files segment rows → (entry : Entry) → IsHeadRead table (Some files) segment entry
+    → EndsBy segment.file (ends_at table segment (ordered table.settings.sorted rows)) entry
+opened_entry table files segment rows valid named has entry read = record { file_is = read.file_is; ends = by read.within }
   where
     front : Front
     front = front_of 1 table (ordered table.settings.sorted rows)
 
-    by : IsWithin head_end table name (bytes_of (Some files) (file_of name)) (entry.offset + entry.count) → entry.offset + entry.count ≤ head_end table name (front_of 1 table (ordered table.settings.sorted rows))
+    by : IsWithin head_end table segment.name (bytes_of (Some files) segment.file) (entry.offset + entry.count) → entry.offset + entry.count ≤ head_end table segment.name (front_of 1 table (ordered table.settings.sorted rows))
     by (inl le) = omega (arith, le)
     by (inr (other, is, le)) =
-        let own : HasFront table name (image 1 table name rows) other = subst (λ b. HasFront table name b other) has.stored is in
-        let same : other ≡ front_of 1 table (ordered table.settings.sorted rows) = fronts_one table name (image 1 table name rows) (front_of 1 table (ordered table.settings.sorted rows)) other (image_keeps table name rows valid named has.can).front_is own in
-        subst (λ f. entry.offset + entry.count ≤ head_end table name f) same le
+        let own : HasFront table segment.name (image 1 table segment.name rows) other = subst (λ b. HasFront table segment.name b other) has.stored is in
+        let same : other ≡ front_of 1 table (ordered table.settings.sorted rows) = fronts_one table segment.name (image 1 table segment.name rows) (front_of 1 table (ordered table.settings.sorted rows)) other (image_keeps table segment.name rows valid named has.can).front_is own in
+        subst (λ f. entry.offset + entry.count ≤ head_end table segment.name f) same le
 
 -- ---- where the sections of the head are
 
@@ -96,7 +97,7 @@ nodes_at table t lt =
     ∙ get_or-append-add ds ns t parts.Bounds
     ∙ get_or-map-range_with_len parts.Nodes 0 (length table.settings.trees) t t parts.Bounds lt plain
 
-module _ (table : Table) (name : List ℕ) (os : List (List Value)) where
+module _ (table : Table) (segment : Stored) (os : List (List Value)) where
   abbrev front-of : Front
   front-of = front_of 1 table os
 
@@ -110,17 +111,17 @@ module _ (table : Table) (name : List ℕ) (os : List (List Value)) where
       ∙ ap length (get_or-map (section_of table os) (sections_of table) k parts.Bounds)
       ∙ ap (λ p. length (section_of table os p)) (nodes_at table t lt)
 
-  module _ (head : Seen) (spread : head.sections ≡ map (placed (file_of name)) (extents_of table name (front_of 1 table os))) where
+  module _ (head : Seen) (spread : head.sections ≡ map (placed segment.file) (extents_of table segment.name (front_of 1 table os))) where
     -- the reads of a section of the head from its start on, up to a place within the head
-    part_ends : (k size : ℕ) (a b : Option (List Entry)) → (limit : Section → ℕ) → k < length (head_sections table) → ((s : Section) → s.place.offset ≡ front_size table name + sum (take k (front_of 1 table os).sizes) → s.place.offset + s.place.length ≡ front_size table name + sum (take (k + 1) (front_of 1 table os).sizes) → limit s ≤ ends_at table name os)
-        → (lt : k < length head.sections) → IfSome (slice_get head.sections k) (λ s. LogsUpTo s.place.file s.place.offset (limit s) a b) → LogsThat (EndsBy (file_of name) (ends_at table name os)) a b
+    part_ends : (k size : ℕ) (a b : Option (List Entry)) → (limit : Section → ℕ) → k < length (head_sections table) → ((s : Section) → s.place.offset ≡ front_size table segment.name + sum (take k (front_of 1 table os).sizes) → s.place.offset + s.place.length ≡ front_size table segment.name + sum (take (k + 1) (front_of 1 table os).sizes) → limit s ≤ ends_at table segment os)
+        → (lt : k < length head.sections) → IfSome (slice_get head.sections k) (λ s. LogsUpTo s.place.file s.place.offset (limit s) a b) → LogsThat (EndsBy segment.file (ends_at table segment os)) a b
     part_ends k size a b limit within fits lt logs =
         let (s, at) = section_at head.sections k lt in
         let (to, le, through) = if_some (slice_get head.sections k) s (λ s. LogsUpTo s.place.file s.place.offset (limit s) a b) at logs in
-        let own : slice_get (map (placed (file_of name)) (extents_of table name (front_of 1 table os))) k ≡ Some s = subst (λ l. slice_get l k ≡ Some s) spread at in
-        let (file_is, begins, ends) = section_is (file_of name) (front_size table name) (sections_of table) (front_of 1 table os).sizes k s own in
+        let own : slice_get (map (placed segment.file) (extents_of table segment.name (front_of 1 table os))) k ≡ Some s = subst (λ l. slice_get l k ≡ Some s) spread at in
+        let (file_is, begins, ends) = section_is segment.file (front_size table segment.name) (sections_of table) (front_of 1 table os).sizes k s own in
         let small = fits s begins ends in
-        subst (λ f. LogsThat (EndsBy f (ends_at table name os)) a b) file_is (through_ends s.place.file s.place.offset to (ends_at table name os) a b (omega (arith, le, small)) through)
+        subst (λ f. LogsThat (EndsBy f (ends_at table segment os)) a b) file_is (through_ends s.place.file s.place.offset to (ends_at table segment os) a b (omega (arith, le, small)) through)
 
     module _ (enough : length table.schema.fields + 1 + length table.settings.trees ≤ length head.sections) (t : ℕ) (lt : t < length table.settings.trees) (long : 4 ≤ length (nodes_of os (slice_get table.settings.trees t))) where
       abbrev sizes : List ℕ
@@ -141,15 +142,15 @@ module _ (table : Table) (name : List ℕ) (os : List (List Value)) where
           any_default (x ∷ xs) zero lt = refl
           any_default (x ∷ xs) (suc k) lt = any_default xs k (omega (arith, lt))
 
-      count_ends : (column : ℕ) (a b : Option (List Entry)) → column < length table.schema.fields → LogsCount head column a b → LogsThat (EndsBy (file_of name) (ends_at table name os)) a b
+      count_ends : (column : ℕ) (a b : Option (List Entry)) → column < length table.schema.fields → LogsCount head column a b → LogsThat (EndsBy segment.file (ends_at table segment os)) a b
       count_ends column a b known logs =
           let less = fewer_summed sizes (column + 1) (length table.schema.fields + 1 + t) (omega (arith, known)) in
           part_ends (column + 1) 4 a b (λ s. s.place.offset + 4) (omega (arith, known, head_count table)) (λ s begins ends. omega (arith, begins, less, nodes_end)) (omega (arith, known, enough)) logs.first
 
-      counts_end : (columns : List ℕ) (a b : Option (List Entry)) → list_all (is_number_of table.schema.fields) columns ≡ true → LogsCounts head columns a b → LogsThat (EndsBy (file_of name) (ends_at table name os)) a b
-      counts_end [] a b known same = subst (LogsThat (EndsBy (file_of name) (ends_at table name os)) a) (sym same) (entries_none (EndsBy (file_of name) (ends_at table name os)) a)
+      counts_end : (columns : List ℕ) (a b : Option (List Entry)) → list_all (is_number_of table.schema.fields) columns ≡ true → LogsCounts head columns a b → LogsThat (EndsBy segment.file (ends_at table segment os)) a b
+      counts_end [] a b known same = subst (LogsThat (EndsBy segment.file (ends_at table segment os)) a) (sym same) (entries_none (EndsBy segment.file (ends_at table segment os)) a)
       counts_end (column ∷ columns) a b known (between, first, rest) =
-          entries_then (EndsBy (file_of name) (ends_at table name os)) a between b
+          entries_then (EndsBy segment.file (ends_at table segment os)) a between b
           (count_ends column a between (ltb-true column (length table.schema.fields) (first_true (is_number_of table.schema.fields column) (list_all (is_number_of table.schema.fields) columns) known)) first)
           (counts_end columns between b (rest_true (is_number_of table.schema.fields column) (list_all (is_number_of table.schema.fields) columns) known) rest)
 
@@ -158,48 +159,48 @@ module _ (table : Table) (name : List ℕ) (os : List (List Value)) where
       known_split valid (Some tree) at = (valid_at table.schema.fields table.settings.trees t tree valid.settings.trees_valid at).split_known
 
       -- the counts and the nodes of a tree were read
-      pub tree_ends : IsValidTable table → (a b : Option (List Entry)) → LogsTree table head t a b → LogsThat (EndsBy (file_of name) (ends_at table name os)) a b
+      pub tree_ends : IsValidTable table → (a b : Option (List Entry)) → LogsTree table head t a b → LogsThat (EndsBy segment.file (ends_at table segment os)) a b
       tree_ends valid a b logs =
           let less = fewer_summed sizes (length table.schema.fields + 1 + t + 1) (length (head_sections table)) (omega (arith, head_count table, lt)) in
-          entries_then (EndsBy (file_of name) (ends_at table name os)) a logs.between b
+          entries_then (EndsBy segment.file (ends_at table segment os)) a logs.between b
           (counts_end (split_of table t) a logs.between (known_split valid (slice_get table.settings.trees t) refl) logs.counts)
           (part_ends (length table.schema.fields + 1 + t) 4 logs.between b (λ s. s.place.offset + s.place.length) (omega (arith, lt, head_count table)) (λ s begins ends. omega (arith, ends, less)) (omega (arith, lt, enough)) logs.nodes)
 
 -- ---- what is read by a plan, after the head
 
-module _ (query : BoundQuery) (table : Table) (name : List ℕ) (os : List (List Value)) where
+module _ (query : BoundQuery) (table : Table) (segment : Stored) (os : List (List Value)) where
   -- reads of the head gave nothing of what is after it
-  pub head_raw : (x : List Entry) → All (EndsBy (file_of name) (ends_at table name os)) x → bytes_read x name (raw_span table name os) ≡ 0
-  head_raw x all = before_part (file_of name) (ends_at table name os) (raw_span table name os).from (raw_span table name os).to x (omega arith) all
+  pub head_raw : (x : List Entry) → All (EndsBy segment.file (ends_at table segment os)) x → bytes_read x segment (raw_span table segment.name os) ≡ 0
+  head_raw x all = before_part segment.file (ends_at table segment os) (raw_span table segment.name os).from (raw_span table segment.name os).to x (omega arith) all
 
-  head_forward : (x : List Entry) → All (EndsBy (file_of name) (ends_at table name os)) x → bytes_read x name (forward_span table name os) ≡ 0
-  head_forward x all = before_part (file_of name) (ends_at table name os) (forward_span table name os).from (forward_span table name os).to x (omega arith) all
+  head_forward : (x : List Entry) → All (EndsBy segment.file (ends_at table segment os)) x → bytes_read x segment (forward_span table segment.name os) ≡ 0
+  head_forward x all = before_part segment.file (ends_at table segment os) (forward_span table segment.name os).from (forward_span table segment.name os).to x (omega arith) all
 
-  pub head_star : (x : List Entry) (t : ℕ) → All (EndsBy (file_of name) (ends_at table name os)) x → bytes_read x name (star_span table name os t) ≡ 0
+  pub head_star : (x : List Entry) (t : ℕ) → All (EndsBy segment.file (ends_at table segment os)) x → bytes_read x segment (star_span table segment.name os t) ≡ 0
   head_star x t all =
       let less = fewer_summed (front_of 1 table os).sizes (length (head_sections table)) (length (head_sections table) + length (raw_sections table) + t) (omega arith) in
-      before_part (file_of name) (ends_at table name os) (star_span table name os t).from (star_span table name os t).to x (omega (arith, less)) all
+      before_part segment.file (ends_at table segment os) (star_span table segment.name os t).from (star_span table segment.name os t).to x (omega (arith, less)) all
 
-  module _ (answered : Bool) (x y : List Entry) (all : All (EndsBy (file_of name) (ends_at table name os)) x) where
-    raw_after : bytes_read (x ++ y) name (raw_span table name os) ≡ bytes_read y name (raw_span table name os)
+  module _ (answered : Bool) (x y : List Entry) (all : All (EndsBy segment.file (ends_at table segment os)) x) where
+    raw_after : bytes_read (x ++ y) segment (raw_span table segment.name os) ≡ bytes_read y segment (raw_span table segment.name os)
     raw_after =
-        let sum = read_in-append x y (file_of name) (raw_span table name os).from (raw_span table name os).to in
+        let sum = read_in-append x y segment.file (raw_span table segment.name os).from (raw_span table segment.name os).to in
         let none = head_raw x all in
         omega (arith, sum, none)
 
-    forward_after : bytes_read (x ++ y) name (forward_span table name os) ≡ bytes_read y name (forward_span table name os)
+    forward_after : bytes_read (x ++ y) segment (forward_span table segment.name os) ≡ bytes_read y segment (forward_span table segment.name os)
     forward_after =
-        let sum = read_in-append x y (file_of name) (forward_span table name os).from (forward_span table name os).to in
+        let sum = read_in-append x y segment.file (forward_span table segment.name os).from (forward_span table segment.name os).to in
         let none = head_forward x all in
         omega (arith, sum, none)
 
-    star_after : (t : ℕ) → bytes_read (x ++ y) name (star_span table name os t) ≡ bytes_read y name (star_span table name os t)
+    star_after : (t : ℕ) → bytes_read (x ++ y) segment (star_span table segment.name os t) ≡ bytes_read y segment (star_span table segment.name os t)
     star_after t =
-        let sum = read_in-append x y (file_of name) (star_span table name os t).from (star_span table name os t).to in
+        let sum = read_in-append x y segment.file (star_span table segment.name os t).from (star_span table segment.name os t).to in
         let none = head_star x t all in
         omega (arith, sum, none)
 
-    after_by : (plan : SegmentPlan) → ReadsBy query table name os answered y plan → ReadsBy query table name os answered (x ++ y) plan
+    after_by : (plan : SegmentPlan) → ReadsBy query table segment os answered y plan → ReadsBy query table segment os answered (x ++ y) plan
     after_by Pruned p = record { raw = raw_after ∙ p.raw; stars = λ t. star_after t ∙ p.stars t }
     after_by Empty p = record { raw = raw_after ∙ p.raw; stars = λ t. star_after t ∙ p.stars t }
     after_by (StarTree t) p = record {
@@ -214,5 +215,5 @@ module _ (query : BoundQuery) (table : Table) (name : List ℕ) (os : List (List
     }
 
     -- reads of the head before them change nothing
-    pub planned_after : ReadsPlanned query table answered name os y → ReadsPlanned query table answered name os (x ++ y)
+    pub planned_after : ReadsPlanned query table answered segment os y → ReadsPlanned query table answered segment os (x ++ y)
     planned_after p = after_by (plan_over query table os) p

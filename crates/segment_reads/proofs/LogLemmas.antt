@@ -11,11 +11,12 @@ use Rattle.table_schema.specs.declared.table.Table.{Table}
 use Rattle.segment_file.specs.declared.part.Part.{Part}
 use Rattle.segment_file.specs.Front.{Front, bounds_end, extents_from, extents_of, front_size, head_end}
 use Rattle.segment_head.specs.Heads.{AreIn, IsHeadOf, IsOpened, IsWithin, LogsOpened, Seen, placed}
-use Rattle.segment_file.specs.Names.{file_of}
 use Rattle.segment_file.specs.Parts.{head_sections, sections_of}
 use Rattle.segment_file.specs.Rules.{HasFront}
 use Rattle.segment_file.proofs.Counts.{head_count}
 use Rattle.std.specs.List.{Contains}
+use Rattle.segment_head.specs.Stored.{segment_at}
+use Rattle.segment_head.specs.declared.stored.Stored.{Stored}
 use Rattle.segment_reads.proofs.NameLemmas.{among}
 use Rattle.segment_reads.specs.Logs.{DictionariesEnd, EndsBy, EndsInHead, IsHeadRead, LogsHeadOf, LogsHeadsOf, LogsIn, LogsThat, LogsWhere}
 
@@ -151,58 +152,58 @@ ends_still table old new end same ends = λ column lt.
     subst (λ l. IfSome (slice_get l (column + 1)) (λ s. s.place.offset + s.place.length ≤ end)) (sym same) (ends column lt)
 
 -- a head that is opened has its dictionaries within the head of its file
-pub opened_ends : (table : Table) (name file : List ℕ) (held : Option Files) (head : Seen) → file ≡ file_of name → IfSome held (λ files. IsOpened table name file (bytes_of (Some files) file) head) → IfSome held (λ files. EndsInHead table files name head)
-opened_ends table name file None head is opened = tt
-opened_ends table name file (Some files) head is opened = record {
+pub opened_ends : (table : Table) (segment : Stored) (held : Option Files) (head : Seen) → IfSome held (λ files. IsOpened table segment.name segment.file (bytes_of (Some files) segment.file) head) → IfSome held (λ files. EndsInHead table files segment head)
+opened_ends table segment None head opened = tt
+opened_ends table segment (Some files) head opened = record {
   front = opened.front;
-  has = subst (λ f. HasFront table name (bytes_of (Some files) f) opened.front) is opened.has;
-  end = all_within table name file opened.front head opened.has.each opened.sections_are;
+  has = opened.has;
+  end = all_within table segment.name segment.file opened.front head opened.has.each opened.sections_are;
 }
 
-module _ (table : Table) (name : List ℕ) where
+module _ (table : Table) (segment : Stored) where
   -- a read that is within the front and the bounds, or within the head
-  opened_within : (bytes : List ℕ) (to at : ℕ) → at ≤ to → IsWithin bounds_end table name bytes to → IsWithin head_end table name bytes at
+  opened_within : (bytes : List ℕ) (to at : ℕ) → at ≤ to → IsWithin bounds_end table segment.name bytes to → IsWithin head_end table segment.name bytes at
   opened_within bytes to at le (inl before) = inl (omega (arith, le, before))
-  opened_within bytes to at le (inr (front, has, before)) = inr (front, has, omega (arith, le, before, bounds_before table name front))
+  opened_within bytes to at le (inr (front, has, before)) = inr (front, has, omega (arith, le, before, bounds_before table segment.name front))
 
-  opened_read : (held : Option Files) (file : List ℕ) (to : ℕ) → file ≡ file_of name → IfSome held (λ files. IsWithin bounds_end table name (bytes_of (Some files) file) to) → (entry : Entry) → EndsBy file to entry → IsHeadRead table held name entry
-  opened_read None file to is within entry read = record { file_is = read.file_is ∙ is; within = tt }
-  opened_read (Some files) file to is within entry read = record {
-    file_is = read.file_is ∙ is;
-    within = opened_within (bytes_of (Some files) (file_of name)) to (entry.offset + entry.count) read.ends (subst (λ f. IsWithin bounds_end table name (bytes_of (Some files) f) to) is within);
+  opened_read : (held : Option Files) (to : ℕ) → IfSome held (λ files. IsWithin bounds_end table segment.name (bytes_of (Some files) segment.file) to) → (entry : Entry) → EndsBy segment.file to entry → IsHeadRead table held segment entry
+  opened_read None to within entry read = record { file_is = read.file_is; within = tt }
+  opened_read (Some files) to within entry read = record {
+    file_is = read.file_is;
+    within = opened_within (bytes_of (Some files) segment.file) to (entry.offset + entry.count) read.ends within;
   }
 
-  -- the file of a segment was opened, by this name or another that it has
-  pub opened_log : (file : List ℕ) (held : Option Files) (a b : Option (List Entry)) → file ≡ file_of name → LogsOpened table name file held a b → LogsHeadOf table held name a b
-  opened_log file held a b is (to, through, within) =
-      entries_as (EndsBy file to) (IsHeadRead table held name) a b (opened_read held file to is within) (through_ends file 0 to to a b (omega arith) through)
+  -- the file of a segment was opened
+  pub opened_log : (held : Option Files) (a b : Option (List Entry)) → LogsOpened table segment.name segment.file held a b → LogsHeadOf table held segment a b
+  opened_log held a b (to, through, within) =
+      entries_as (EndsBy segment.file to) (IsHeadRead table held segment) a b (opened_read held to within) (through_ends segment.file 0 to to a b (omega arith) through)
 
-  loaded_read : (files : Files) (front : Front) → HasFront table name (bytes_of (Some files) (file_of name)) front → (entry : Entry) → EndsBy (file_of name) (head_end table name front) entry → IsHeadRead table (Some files) name entry
+  loaded_read : (files : Files) (front : Front) → HasFront table segment.name (bytes_of (Some files) segment.file) front → (entry : Entry) → EndsBy segment.file (head_end table segment.name front) entry → IsHeadRead table (Some files) segment entry
   loaded_read files front has entry read = record { file_is = read.file_is; within = inr (front, has, read.ends) }
 
   -- dictionaries of its head were read
-  pub loaded_log : (held : Option Files) (head : Seen) (a b : Option (List Entry)) → IsHeadOf table head → AreIn (file_of name) head.sections → IfSome held (λ files. EndsInHead table files name head)
-      → ((file : List ℕ) (end : ℕ) → AreIn file head.sections → DictionariesEnd table head end → LogsThat (EndsBy file end) a b) → LogsHeadOf table held name a b
+  pub loaded_log : (held : Option Files) (head : Seen) (a b : Option (List Entry)) → IsHeadOf table head → AreIn segment.file head.sections → IfSome held (λ files. EndsInHead table files segment head)
+      → ((file : List ℕ) (end : ℕ) → AreIn file head.sections → DictionariesEnd table head end → LogsThat (EndsBy file end) a b) → LogsHeadOf table held segment a b
   loaded_log None head a b of within ends logs =
       let end : ℕ = head_end table of.name of.front in
-      entries_as (EndsBy (file_of name) end) (IsHeadRead table None name) a b (λ entry read. record { file_is = read.file_is; within = tt })
-      (logs (file_of name) end within (all_within table of.name of.file of.front head of.each of.has.sections_are))
+      entries_as (EndsBy segment.file end) (IsHeadRead table None segment) a b (λ entry read. record { file_is = read.file_is; within = tt })
+      (logs segment.file end within (all_within table of.name of.file of.front head of.each of.has.sections_are))
   loaded_log (Some files) head a b of within ends logs =
-      entries_as (EndsBy (file_of name) (head_end table name ends.front)) (IsHeadRead table (Some files) name) a b (loaded_read files ends.front ends.has)
-      (logs (file_of name) (head_end table name ends.front) within ends.end)
+      entries_as (EndsBy segment.file (head_end table segment.name ends.front)) (IsHeadRead table (Some files) segment) a b (loaded_read files ends.front ends.has)
+      (logs segment.file (head_end table segment.name ends.front) within ends.end)
 
   -- they are reads of the file of the segment
-  pub head_in : (held : Option Files) (a b : Option (List Entry)) → LogsHeadOf table held name a b → LogsIn (file_of name) a b
-  head_in held a b logs = entries_as (IsHeadRead table held name) (λ entry. entry.file ≡ file_of name) a b (λ entry read. read.file_is) logs
+  pub head_in : (held : Option Files) (a b : Option (List Entry)) → LogsHeadOf table held segment a b → LogsIn segment.file a b
+  head_in held a b logs = entries_as (IsHeadRead table held segment) (λ entry. entry.file ≡ segment.file) a b (λ entry read. read.file_is) logs
 
-  pub loaded_in : (head : Seen) (a b : Option (List Entry)) → IsHeadOf table head → AreIn (file_of name) head.sections
-      → ((file : List ℕ) (end : ℕ) → AreIn file head.sections → DictionariesEnd table head end → LogsThat (EndsBy file end) a b) → LogsIn (file_of name) a b
+  pub loaded_in : (head : Seen) (a b : Option (List Entry)) → IsHeadOf table head → AreIn segment.file head.sections
+      → ((file : List ℕ) (end : ℕ) → AreIn file head.sections → DictionariesEnd table head end → LogsThat (EndsBy file end) a b) → LogsIn segment.file a b
   loaded_in head a b of within logs = head_in None a b (loaded_log None head a b of within tt logs)
 
 -- the head of one segment more was read
-pub heads_more : (table : Table) (names : List (List ℕ)) (k : ℕ) (text : List ℕ) (held now : Option Files) (a b c : Option (List Entry)) → k < length names → text ≡ get_or names k [] → now ≡ held → LogsHeadsOf table held names a b → LogsHeadOf table now text b c
-    → LogsHeadsOf table held names a c
-heads_more table names k text held now a b c lt is same before here =
-    let P : Entry → Type 0 = λ entry. (name : List ℕ) × Contains names name × IsHeadRead table held name entry in
-    let own : LogsHeadOf table held (get_or names k []) b c = subst (λ name. LogsHeadOf table held name b c) is (subst (λ h. LogsHeadOf table h text b c) same here) in
-    entries_then P a b c before (entries_as (IsHeadRead table held (get_or names k [])) P b c (λ entry read. (get_or names k [], among names k lt, read)) own)
+pub heads_more : (table : Table) (stored : List Stored) (k : ℕ) (segment : Stored) (held now : Option Files) (a b c : Option (List Entry)) → k < length stored → segment ≡ segment_at stored k → now ≡ held → LogsHeadsOf table held stored a b → LogsHeadOf table now segment b c
+    → LogsHeadsOf table held stored a c
+heads_more table stored k segment held now a b c lt is same before here =
+    let P : Entry → Type 0 = λ entry. (segment : Stored) × Contains stored segment × IsHeadRead table held segment entry in
+    let own : LogsHeadOf table held (segment_at stored k) b c = subst (λ one. LogsHeadOf table held one b c) is (subst (λ h. LogsHeadOf table h segment b c) same here) in
+    entries_then P a b c before (entries_as (IsHeadRead table held (segment_at stored k)) P b c (λ entry read. (segment_at stored k, among stored k lt, read)) own)

@@ -12,7 +12,6 @@ use Rattle.table_schema.specs.declared.table.Table.{Table}
 use Rattle.table_schema.specs.ValidTable.{IsValidTable}
 use Rattle.value_ids.specs.Dictionary.{most_values}
 use Rattle.outside.specs.Stretches.{LogsOver, LogsPartly, Stretch}
-use Rattle.segment_file.specs.Names.{file_of}
 use Rattle.segment_plan.specs.declared.plans.ScanPlan.{ScanPlan}
 use Rattle.segment_plan.specs.declared.plans.SegmentPlan.{SegmentPlan}
 use Rattle.segment_plan.specs.declared.plans.SegmentPlan.TheVariants.{Pruned, Empty, StarTree, Scan}
@@ -24,11 +23,12 @@ use Rattle.segment_reads.specs.Logs.{EndsBy}
 use Rattle.segment_reads.specs.Reads.{AreBytes, ReadsBy, ReadsPlanned, ReadsScan, bytes_read, forward_span, raw_span, star_span}
 use Rattle.segment_reads.proofs.GrownLemmas.{IsOfFile}
 use Rattle.segment_reads.proofs.LogLemmas.{join_logs, of_file, same_log}
+use Rattle.segment_head.specs.declared.stored.Stored.{Stored}
 
 -- ---- bytes of reads
 
-pub none_read : (name : List ℕ) (span : Stretch) → bytes_read [] name span ≡ 0
-none_read name span = refl
+pub none_read : (segment : Stored) (span : Stretch) → bytes_read [] segment span ≡ 0
+none_read segment span = refl
 
 -- reads that end before a part gave nothing of it
 pub before_part : (file : List ℕ) (end from to : ℕ) (x : List Entry) → end ≤ from → All (EndsBy file end) x → read_in x file from to ≡ 0
@@ -79,48 +79,48 @@ partly_read file (part ∷ parts) a b (inr (between, first, rest)) =
 
 -- ---- what is read by a plan
 
-module _ (name : List ℕ) (x y : List Entry) where
-  after_others : (span : Stretch) → All (λ e. e.file ≢ file_of name) y → bytes_read (x ++ y) name span ≡ bytes_read x name span
+module _ (segment : Stored) (x y : List Entry) where
+  after_others : (span : Stretch) → All (λ e. e.file ≢ segment.file) y → bytes_read (x ++ y) segment span ≡ bytes_read x segment span
   after_others span all =
-      let sum = read_in-append x y (file_of name) span.from span.to in
-      let none = read_in-others y (file_of name) span.from span.to all in
+      let sum = read_in-append x y segment.file span.from span.to in
+      let none = read_in-others y segment.file span.from span.to all in
       omega (arith, sum, none)
 
-  before_others : (span : Stretch) → All (λ e. e.file ≢ file_of name) x → bytes_read (x ++ y) name span ≡ bytes_read y name span
+  before_others : (span : Stretch) → All (λ e. e.file ≢ segment.file) x → bytes_read (x ++ y) segment span ≡ bytes_read y segment span
   before_others span all =
-      let sum = read_in-append x y (file_of name) span.from span.to in
-      let none = read_in-others x (file_of name) span.from span.to all in
+      let sum = read_in-append x y segment.file span.from span.to in
+      let none = read_in-others x segment.file span.from span.to all in
       omega (arith, sum, none)
 
-module _ (query : BoundQuery) (table : Table) (name : List ℕ) (rows : List (List Value)) (plan : ScanPlan) where
+module _ (query : BoundQuery) (table : Table) (segment : Stored) (rows : List (List Value)) (plan : ScanPlan) where
   -- no reads of a scan
-  pub scan_nothing : ReadsScan query table name rows plan []
+  pub scan_nothing : ReadsScan query table segment rows plan []
   scan_nothing = record { stars = λ t. refl; forward = omega arith }
 
   -- reads of a scan that gave as many bytes of each part
-  scan_as_many : (x y : List Entry) → ((span : Stretch) → bytes_read y name span ≡ bytes_read x name span) → ReadsScan query table name rows plan x → ReadsScan query table name rows plan y
+  scan_as_many : (x y : List Entry) → ((span : Stretch) → bytes_read y segment span ≡ bytes_read x segment span) → ReadsScan query table segment rows plan x → ReadsScan query table segment rows plan y
   scan_as_many x y same r = record {
-    stars = λ t. same (star_span table name rows t) ∙ r.stars t;
-    forward = let few = r.forward in omega (arith, few, same (forward_span table name rows));
+    stars = λ t. same (star_span table segment.name rows t) ∙ r.stars t;
+    forward = let few = r.forward in omega (arith, few, same (forward_span table segment.name rows));
   }
 
-module _ (query : BoundQuery) (table : Table) (answered : Bool) (name : List ℕ) (rows : List (List Value)) where
+module _ (query : BoundQuery) (table : Table) (answered : Bool) (segment : Stored) (rows : List (List Value)) where
   -- reads that gave as many bytes of each part
-  as_many : (x y : List Entry) → ((span : Stretch) → bytes_read y name span ≡ bytes_read x name span) → (plan : SegmentPlan) → ReadsBy query table name rows answered x plan → ReadsBy query table name rows answered y plan
-  as_many x y same Pruned p = record { raw = same (raw_span table name rows) ∙ p.raw; stars = λ t. same (star_span table name rows t) ∙ p.stars t }
-  as_many x y same Empty p = record { raw = same (raw_span table name rows) ∙ p.raw; stars = λ t. same (star_span table name rows t) ∙ p.stars t }
+  as_many : (x y : List Entry) → ((span : Stretch) → bytes_read y segment span ≡ bytes_read x segment span) → (plan : SegmentPlan) → ReadsBy query table segment rows answered x plan → ReadsBy query table segment rows answered y plan
+  as_many x y same Pruned p = record { raw = same (raw_span table segment.name rows) ∙ p.raw; stars = λ t. same (star_span table segment.name rows t) ∙ p.stars t }
+  as_many x y same Empty p = record { raw = same (raw_span table segment.name rows) ∙ p.raw; stars = λ t. same (star_span table segment.name rows t) ∙ p.stars t }
   as_many x y same (StarTree t) p = record {
-    raw = same (raw_span table name rows) ∙ p.raw;
-    documents = subst (λ n. IfSome (slice_get table.settings.trees t) (λ tree. AreBytes answered n (docs_read query table rows t * doc_width tree.shape))) (sym (same (star_span table name rows t))) p.documents;
-    others = λ other ne. same (star_span table name rows other) ∙ p.others other ne;
+    raw = same (raw_span table segment.name rows) ∙ p.raw;
+    documents = subst (λ n. IfSome (slice_get table.settings.trees t) (λ tree. AreBytes answered n (docs_read query table rows t * doc_width tree.shape))) (sym (same (star_span table segment.name rows t))) p.documents;
+    others = λ other ne. same (star_span table segment.name rows other) ∙ p.others other ne;
     bounded = p.bounded;
   }
-  as_many x y same (Scan plan) p = scan_as_many query table name rows plan x y same p
+  as_many x y same (Scan plan) p = scan_as_many query table segment rows plan x y same p
 
 pub planned_of_file : (query : BoundQuery) (table : Table) (answered : Bool) → IsOfFile (ReadsPlanned query table answered)
 planned_of_file query table answered = record {
-  after = λ name rows x y all p. as_many query table answered name rows x (x ++ y) (λ span. after_others name x y span all) (plan_over query table rows) p;
-  before = λ name rows x y all p. as_many query table answered name rows y (x ++ y) (λ span. before_others name x y span all) (plan_over query table rows) p;
+  after = λ segment rows x y all p. as_many query table answered segment rows x (x ++ y) (λ span. after_others segment x y span all) (plan_over query table rows) p;
+  before = λ segment rows x y all p. as_many query table answered segment rows y (x ++ y) (λ span. before_others segment x y span all) (plan_over query table rows) p;
 }
 
 -- what was read by a query that was answered is no more than what may be read by one that was not
@@ -131,15 +131,15 @@ if_tree : (o : Option TreeSetting) (P Q : TreeSetting → Type 0) → ((tree : T
 if_tree None P Q f h = tt
 if_tree (Some tree) P Q f h = f tree h
 
-pub planned_less : (query : BoundQuery) (table : Table) (name : List ℕ) (rows : List (List Value)) (entries : List Entry) → ReadsPlanned query table true name rows entries → ReadsPlanned query table false name rows entries
-planned_less query table name rows entries p = by (plan_over query table rows) p
+pub planned_less : (query : BoundQuery) (table : Table) (segment : Stored) (rows : List (List Value)) (entries : List Entry) → ReadsPlanned query table true segment rows entries → ReadsPlanned query table false segment rows entries
+planned_less query table segment rows entries p = by (plan_over query table rows) p
   where
-    by : (plan : SegmentPlan) → ReadsBy query table name rows true entries plan → ReadsBy query table name rows false entries plan
+    by : (plan : SegmentPlan) → ReadsBy query table segment rows true entries plan → ReadsBy query table segment rows false entries plan
     by Pruned p = p
     by Empty p = p
     by (StarTree t) p = record {
       raw = p.raw;
-      documents = if_tree (slice_get table.settings.trees t) _ _ (λ tree is. at_most (bytes_read entries name (star_span table name rows t)) (docs_read query table rows t * doc_width tree.shape) is) p.documents;
+      documents = if_tree (slice_get table.settings.trees t) _ _ (λ tree is. at_most (bytes_read entries segment (star_span table segment.name rows t)) (docs_read query table rows t * doc_width tree.shape) is) p.documents;
       others = p.others;
       bounded = p.bounded;
     }

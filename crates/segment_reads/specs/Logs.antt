@@ -6,12 +6,12 @@ use Rattle.outside.specs.Reads.{Entry}
 use Rattle.table_schema.specs.declared.table.Table.{Table}
 use Rattle.segment_file.specs.Front.{Front, head_end}
 use Rattle.segment_head.specs.Heads.{IsWithin, Seen, dictionary_section}
-use Rattle.segment_file.specs.Names.{file_of}
 use Rattle.segment_file.specs.Rules.{HasFront}
+use Rattle.segment_head.specs.declared.stored.Stored.{Stored}
 
--- a file is that of a segment of one of these names
-abbrev pub IsFileOf : List (List ℕ) → List ℕ → Type 0
-IsFileOf names file = (name : List ℕ) × Contains names name × (file ≡ file_of name)
+-- a file is that of one of these segments
+abbrev pub IsFileOf : List Stored → List ℕ → Type 0
+IsFileOf stored file = (segment : Stored) × Contains stored segment × (file ≡ segment.file)
 
 -- the told log grew by reads that have P
 abbrev pub LogsThat : (Entry → Type 0) → Option (List Entry) → Option (List Entry) → Type 0
@@ -23,8 +23,8 @@ abbrev pub LogsWhere : (List ℕ → Type 0) → Option (List Entry) → Option 
 LogsWhere P old new = LogsThat (λ entry. P entry.file) old new
 
 -- the told log grew by reads of the files of these segments
-abbrev pub LogsOf : List (List ℕ) → Option (List Entry) → Option (List Entry) → Type 0
-LogsOf names old new = LogsWhere (IsFileOf names) old new
+abbrev pub LogsOf : List Stored → Option (List Entry) → Option (List Entry) → Type 0
+LogsOf stored old new = LogsWhere (IsFileOf stored) old new
 
 -- the told log grew by reads of this file
 abbrev pub LogsIn : List ℕ → Option (List Entry) → Option (List Entry) → Type 0
@@ -44,26 +44,27 @@ DictionariesEnd table head end = (column : ℕ) → column < length table.schema
 
 -- a read of the file of a segment; where files are told, of nothing past its head, by what its
 -- front says
-pub record IsHeadRead (table : Table) (held : Option Files) (name : List ℕ) (entry : Entry)
+pub record IsHeadRead (table : Table) (held : Option Files) (segment : Stored) (entry : Entry)
     : Type 0 where
-  pub file_is : entry.file ≡ file_of name
-  pub within : IfSome held (λ files. IsWithin head_end table name
-      (bytes_of (Some files) (file_of name)) (entry.offset + entry.count))
+  pub file_is : entry.file ≡ segment.file
+  pub within : IfSome held (λ files. IsWithin head_end table segment.name
+      (bytes_of (Some files) segment.file) (entry.offset + entry.count))
 
--- the told log grew by such reads of the segment of this name
-abbrev pub LogsHeadOf : Table → Option Files → List ℕ → Option (List Entry) → Option (List Entry)
+-- the told log grew by such reads of this segment
+abbrev pub LogsHeadOf : Table → Option Files → Stored → Option (List Entry) → Option (List Entry)
     → Type 0
-LogsHeadOf table held name old new = LogsThat (IsHeadRead table held name) old new
+LogsHeadOf table held segment old new = LogsThat (IsHeadRead table held segment) old new
 
--- the told log grew by such reads of the segments of these names
-abbrev pub LogsHeadsOf : Table → Option Files → List (List ℕ) → Option (List Entry)
+-- the told log grew by such reads of these segments
+abbrev pub LogsHeadsOf : Table → Option Files → List Stored → Option (List Entry)
     → Option (List Entry) → Type 0
-LogsHeadsOf table held names old new = LogsThat (λ entry. (name : List ℕ) × Contains names name
-    × IsHeadRead table held name entry) old new
+LogsHeadsOf table held stored old new = LogsThat (λ entry. (segment : Stored)
+    × Contains stored segment × IsHeadRead table held segment entry) old new
 
 -- the file of a segment has a front, and the dictionaries of the head end within the head that this
 -- says
-pub record EndsInHead (table : Table) (files : Files) (name : List ℕ) (head : Seen) : Type 0 where
+pub record EndsInHead (table : Table) (files : Files) (segment : Stored) (head : Seen)
+    : Type 0 where
   pub front : Front
-  pub has : HasFront table name (bytes_of (Some files) (file_of name)) front
-  pub end : DictionariesEnd table head (head_end table name front)
+  pub has : HasFront table segment.name (bytes_of (Some files) segment.file) front
+  pub end : DictionariesEnd table head (head_end table segment.name front)

@@ -10,6 +10,7 @@ use Rattle.segment_plan.specs.Planned.{plan_over}
 use Rattle.segment_plan.specs.RowsLeft.{rows_left}
 use Rattle.segment_reads.specs.Docs.{docs_read}
 use Rattle.segment_head.specs.Stored.{HasImage}
+use Rattle.segment_head.specs.declared.stored.Stored.{Stored}
 use Rattle.segment_file.specs.Ordered.{ordered}
 
 -- how many documents are looked at for a plan: of these rows those that the indexes of a scan
@@ -25,8 +26,8 @@ docs_over query table rows = docs_by query table rows (plan_over query table row
 
 -- where files are told: if the segment's file is the image of rows, this is their plan, and so many
 -- documents are looked at
-abbrev pub IsDoneIn : BoundQuery → Table → Option Files → List ℕ → SegmentPlan → ℕ → Type 0
-IsDoneIn query table held name plan docs =
-    IfSome held (λ files. (rows : List (List Value)) → HasImage table files name rows
+abbrev pub IsDoneIn : BoundQuery → Table → Option Files → Stored → SegmentPlan → ℕ → Type 0
+IsDoneIn query table held segment plan docs =
+    IfSome held (λ files. (rows : List (List Value)) → HasImage table files segment rows
     → (plan ≡ plan_over query table (ordered table.settings.sorted rows))
     × (docs ≡ docs_over query table (ordered table.settings.sorted rows)))

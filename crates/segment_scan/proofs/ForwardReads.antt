@@ -20,7 +20,6 @@ use Rattle.segment_file.specs.Front.{extents_of}
 use Rattle.segment_head.specs.Heads.{IsHeadOf, IsLoaded, Seen, place_in, placed}
 use Rattle.segment_file.specs.Image.{count_of, front_of}
 use Rattle.segment_file.specs.Image as segment
-use Rattle.segment_file.specs.Names.{file_of}
 use Rattle.segment_file.specs.Ordered.{value_in}
 use Rattle.segment_plan.specs.Laws.{TellsOf}
 use Rattle.column_reader.specs.Bytes.{GrowsBy}
@@ -37,6 +36,7 @@ use Rattle.segment_scan.proofs.IndexReads.{count_are, each_within, placed_raw}
 use Rattle.segment_scan.proofs.PartPlaces.{IsRawPlace, forward_size}
 use Rattle.segment_head.proofs.SectionLemmas.{rows_few}
 use Rattle.segment_scan.proofs.WithinLogs.{IsWithin, LiesIn, grows_less, grows_partly, grows_up, marks_bytes, marks_few, on_lies, one_if, over_lies, part_grows, part_that, partly_lies, same_lies, series_grows, series_that, up_lies}
+use Rattle.segment_head.specs.declared.stored.Stored.{Stored}
 
 -- ---- ids of columns
 
@@ -53,17 +53,17 @@ marked_within [] at is = absurd (false≢true is)
 marked_within (b ∷ bs) zero is = omega arith
 marked_within (b ∷ bs) (suc at) is = let rest = marked_within bs at is in omega (arith, rest)
 
-module _ (table : Table) (name : List ℕ) (head : Seen) (rows : List (List Value)) (sections : head.sections ≡ map (placed (file_of name)) (extents_of table name (front_of 1 table rows))) (tells : TellsOf table rows head) (of_table : IsHeadOf table head) where
+module _ (table : Table) (segment : Stored) (head : Seen) (rows : List (List Value)) (sections : head.sections ≡ map (placed segment.file) (extents_of table segment.name (front_of 1 table rows))) (tells : TellsOf table rows head) (of_table : IsHeadOf table head) where
   abbrev high : ℕ
-  high = (raw_span table name rows).to
+  high = (raw_span table segment.name rows).to
 
   -- a read before the documents of the star-trees
   abbrev pub LiesBefore : Entry → Type 0
-  LiesBefore = LiesIn (file_of name) 0 high
+  LiesBefore = LiesIn segment.file 0 high
 
   width_small : (column : ℕ) → IsLoaded head column → width_in head column ≤ 20
   width_small column loaded =
-      let same = count_are table name head rows sections tells column loaded in
+      let same = count_are table segment head rows sections tells column loaded in
       let at_most = distinct_few (segment.values_in column rows) in
       let long = length-map rows (value_in column) in
       let many = rows_few table head of_table in
@@ -71,13 +71,13 @@ module _ (table : Table) (name : List ℕ) (head : Seen) (rows : List (List Valu
       (width-least (count_in head column) (omega (arith, same, at_most, long, many, count))).2 20 (omega arith) (omega (arith, same, at_most, long, many, count))
 
   module _ (column : ℕ) (is : IsReadable head column) where
-    ids_end : (place : Place) → IsRawPlace table name rows (Forward column) place → (first to : ℕ) → first ≤ head.rows → to ≤ head.rows → place.offset + end_byte (width_in head column) first to ≤ high
+    ids_end : (place : Place) → IsRawPlace table segment rows (Forward column) place → (first to : ℕ) → first ≤ head.rows → to ≤ head.rows → place.offset + end_byte (width_in head column) first to ≤ high
     ids_end place raw first to begins ends =
         let last = raw.ends in
         let long = raw.long in
         let size = forward_size table rows column in
         let at_most = end_few (width_in head column) first to head.rows begins ends in
-        let same : bytes_for (head.rows * width_in head column) ≡ bytes_for (length rows * width_of (count_of rows column)) = (λ i. bytes_for (tells.rows_are i * width_of (count_are table name head rows sections tells column is.loaded i))) in
+        let same : bytes_for (head.rows * width_in head column) ≡ bytes_for (length rows * width_of (count_of rows column)) = (λ i. bytes_for (tells.rows_are i * width_of (count_are table segment head rows sections tells column is.loaded i))) in
         omega (arith, last, long, size, at_most, same)
 
     whole_few : end_byte (width_in head column) 0 head.rows - first_byte (width_in head column) 0 ≤ 4 * head.rows
@@ -86,11 +86,11 @@ module _ (table : Table) (name : List ℕ) (head : Seen) (rows : List (List Valu
         let most = mul-le head.rows (width_in head column) head.rows 20 (omega arith) (width_small column is.loaded) in
         omega (arith, at_most, most)
 
-    forward_place : (P : Place → Type 0) (Q : Type 0) → IfSome (place_in head.sections (Forward column)) P → ((place : Place) → IsRawPlace table name rows (Forward column) place → P place → Q) → Q
-    forward_place P Q logs f = placed_raw table name head rows sections tells (Forward column) (omega arith) (omega arith) is.placed P Q logs f
+    forward_place : (P : Place → Type 0) (Q : Type 0) → IfSome (place_in head.sections (Forward column)) P → ((place : Place) → IsRawPlace table segment rows (Forward column) place → P place → Q) → Q
+    forward_place P Q logs f = placed_raw table segment head rows sections tells (Forward column) (omega arith) (omega arith) is.placed P Q logs f
 
     module _ (old new : Option (List Entry)) where
-      own_file : (place : Place) → IsRawPlace table name rows (Forward column) place → LogsThat (LiesIn place.file 0 high) old new → LogsThat LiesBefore old new
+      own_file : (place : Place) → IsRawPlace table segment rows (Forward column) place → LogsThat (LiesIn place.file 0 high) old new → LogsThat LiesBefore old new
       own_file place raw logs = subst (λ f. LogsThat (LiesIn f 0 high) old new) raw.file_is logs
 
       forward_before : LogsForward head column old new → LogsThat LiesBefore old new
@@ -118,7 +118,7 @@ module _ (table : Table) (name : List ℕ) (head : Seen) (rows : List (List Valu
       -- ---- of runs of documents
 
       module _ (runs : List Run) (apart : Apart 0 runs) (within : All (λ doc. doc < head.rows) (docs_of runs)) where
-        runs_within : (place : Place) → IsRawPlace table name rows (Forward column) place → AllByRecursion (IsWithin 0 high) (map (ids_of_run (width_in head column) place.offset) runs)
+        runs_within : (place : Place) → IsRawPlace table segment rows (Forward column) place → AllByRecursion (IsWithin 0 high) (map (ids_of_run (width_in head column) place.offset) runs)
         runs_within place raw =
             each_within 0 high head.rows 0 (ids_of_run (width_in head column) place.offset)
             (λ run order lt. record { begins = omega arith; ends = ids_end place raw run.first (run.last + 1) (omega (arith, order, lt)) (omega (arith, lt)) }) runs apart (lasts_below 0 runs head.rows apart within)
@@ -128,7 +128,7 @@ module _ (table : Table) (name : List ℕ) (head : Seen) (rows : List (List Valu
             forward_place _ (LogsThat LiesBefore old new) logs (λ place raw h. own_file place raw (over_lies place.file 0 high (map (ids_of_run (width_in head column) place.offset) runs) old new (runs_within place raw) h))
 
         runs_part_before : LogsRunsPartly head runs column old new → LogsThat LiesBefore old new
-        runs_part_before (inl same) = same_lies (file_of name) 0 high old new same
+        runs_part_before (inl same) = same_lies segment.file 0 high old new same
         runs_part_before (inr logs) =
             forward_place _ (LogsThat LiesBefore old new) logs (λ place raw h. own_file place raw (partly_lies place.file 0 high (map (ids_of_run (width_in head column) place.offset) runs) old new (runs_within place raw) h))
 
@@ -164,7 +164,7 @@ module _ (table : Table) (name : List ℕ) (head : Seen) (rows : List (List Valu
         rest (inr (is, logs)) = inr (marked_within named s.upto is, (is, logs))
 
     named_before : (b : Bool) (column : ℕ) → get_or named column false ≡ b → (old new : Option (List Entry)) → LogsNamed head column b old new → LogsThat LiesBefore old new
-    named_before false column is old new same = same_lies (file_of name) 0 high old new same
+    named_before false column is old new same = same_lies segment.file 0 high old new same
     named_before true column is old new logs = forward_before column (readable column is) old new logs
 
     named_grows : (b : Bool) (column : ℕ) → get_or named column false ≡ b → (old new : Option (List Entry)) → LogsNamed head column b old new → GrowsBy (4 * head.rows * one_if b) old new
@@ -201,11 +201,11 @@ module _ (table : Table) (name : List ℕ) (head : Seen) (rows : List (List Valu
         here = subst (All (λ doc. doc < head.rows)) (sym are) within
 
         picked_before : (v : Bool) (column : ℕ) → get_or named column false ≡ v → (a b : Option (List Entry)) → LogsIf head runs column v a b → LogsThat LiesBefore a b
-        picked_before false column is a b same = same_lies (file_of name) 0 high a b same
+        picked_before false column is a b same = same_lies segment.file 0 high a b same
         picked_before true column is a b h = runs_before column (readable column is) a b runs apart here h
 
         picked_partly : (v : Bool) (column : ℕ) → get_or named column false ≡ v → (a b : Option (List Entry)) → LogsIfPartly head runs column v a b → LogsThat LiesBefore a b
-        picked_partly false column is a b same = same_lies (file_of name) 0 high a b same
+        picked_partly false column is a b same = same_lies segment.file 0 high a b same
         picked_partly true column is a b h = runs_part_before column (readable column is) a b runs apart here h
 
         picked_bytes : (v : Bool) (column : ℕ) → get_or named column false ≡ v → (a b : Option (List Entry)) → LogsIfPartly head runs column v a b → GrowsBy (4 * length docs * one_if v) a b
@@ -225,7 +225,7 @@ module _ (table : Table) (name : List ℕ) (head : Seen) (rows : List (List Valu
           series_that LiesBefore (LogsPicked head runs named) (length named) (λ at lt a b h. picked_before runs apart are (get_or named at false) at refl a b h) (length named) (omega arith) old new logs
 
       pub partly_before : (old new : Option (List Entry)) → LogsDocsPartly head named docs old new → LogsThat LiesBefore old new
-      partly_before old new (inl same) = same_lies (file_of name) 0 high old new same
+      partly_before old new (inl same) = same_lies segment.file 0 high old new same
       partly_before old new (inr (runs, apart, are, logs)) =
           part_that LiesBefore (LogsPicked head runs named) (length named) (λ at lt a b h. picked_before runs apart are (get_or named at false) at refl a b h)
           (LogsPickedPartly head runs named) (λ at lt a b h. picked_partly runs apart are (get_or named at false) at refl a b h) old new logs

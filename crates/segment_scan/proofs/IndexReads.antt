@@ -31,7 +31,6 @@ use Rattle.segment_file.specs.Front.{extents_of}
 use Rattle.segment_head.specs.Heads.{IsLoaded, Seen, place_in, placed}
 use Rattle.segment_file.specs.Image.{count_of, front_of, section_of}
 use Rattle.segment_file.specs.Image as segment
-use Rattle.segment_file.specs.Names.{file_of}
 use Rattle.segment_file.specs.Parts.{kind_of}
 use Rattle.segment_plan.specs.Choices.{are_consecutive}
 use Rattle.segment_plan.specs.Laws.{TellsOf}
@@ -46,6 +45,7 @@ use Rattle.segment_reads.specs.Reads.{forward_span, raw_span}
 use Rattle.segment_reads.proofs.LogLemmas.{entries_then}
 use Rattle.segment_scan.proofs.PartPlaces.{IsRawPlace, inverted_size, range_size, raw_place, sorted_size}
 use Rattle.segment_scan.proofs.WithinLogs.{IsWithin, LiesIn, over_lies, partly_lies, same_lies}
+use Rattle.segment_head.specs.declared.stored.Stored.{Stored}
 
 -- ---- stretches of runs and of parts of entries
 
@@ -69,7 +69,7 @@ some_ids (id ∷ ids) is = omega arith
 
 -- ---- the sections of an image
 
-module _ (table : Table) (name : List ℕ) (head : Seen) (rows : List (List Value)) (sections : head.sections ≡ map (placed (file_of name)) (extents_of table name (front_of 1 table rows))) (tells : TellsOf table rows head) where
+module _ (table : Table) (segment : Stored) (head : Seen) (rows : List (List Value)) (sections : head.sections ≡ map (placed segment.file) (extents_of table segment.name (front_of 1 table rows))) (tells : TellsOf table rows head) where
   pub values_are : (column : ℕ) → IsLoaded head column → values_in head column ≡ distinct (segment.values_in column rows)
   values_are column loaded = ap values_of loaded.1 ∙ ap (λ d. d.values) (tells.dictionaries_are column loaded.0 loaded.1)
 
@@ -77,22 +77,22 @@ module _ (table : Table) (name : List ℕ) (head : Seen) (rows : List (List Valu
   count_are column loaded = ap length (values_are column loaded)
 
   -- what holds of the place of a section of the rows
-  pub placed_raw : (p : Part) → 0 < kind_of p → kind_of p < 8 → IsSome (place_in head.sections p) → (P : Place → Type 0) (Q : Type 0) → IfSome (place_in head.sections p) P → ((place : Place) → IsRawPlace table name rows p place → P place → Q) → Q
+  pub placed_raw : (p : Part) → 0 < kind_of p → kind_of p < 8 → IsSome (place_in head.sections p) → (P : Place → Type 0) (Q : Type 0) → IfSome (place_in head.sections p) P → ((place : Place) → IsRawPlace table segment rows p place → P place → Q) → Q
   placed_raw p some at_most is P Q logs f = by (place_in head.sections p) refl is logs
     where
       by : (o : Option Place) → place_in head.sections p ≡ o → IsSome o → IfSome o P → Q
       by None at is logs = absurd cc
-      by (Some place) at is logs = f place (raw_place table name rows p place some at_most (ap (λ s. place_in s p) (sym sections) ∙ at)) logs
+      by (Some place) at is logs = f place (raw_place table segment rows p place some at_most (ap (λ s. place_in s p) (sym sections) ∙ at)) logs
 
   -- a read between the forward indexes and the documents of the star-trees
   abbrev pub LiesBehind : Entry → Type 0
-  LiesBehind = LiesIn (file_of name) (forward_span table name rows).to (raw_span table name rows).to
+  LiesBehind = LiesIn segment.file (forward_span table segment.name rows).to (raw_span table segment.name rows).to
 
   abbrev low : ℕ
-  low = (forward_span table name rows).to
+  low = (forward_span table segment.name rows).to
 
   abbrev high : ℕ
-  high = (raw_span table name rows).to
+  high = (raw_span table segment.name rows).to
 
   ids_below : (column : ℕ) (test : Test) → All (λ id. id < count_in head column) (matching test (values_in head column))
   ids_below column test = matching_below (values_in head column) test (matching test (values_in head column)) (each_matching (values_in head column) test (matching test (values_in head column)) refl)
@@ -103,7 +103,7 @@ module _ (table : Table) (name : List ℕ) (head : Seen) (rows : List (List Valu
 
     -- ---- the sorted column
 
-    ends_within : IsRawPlace table name rows (parts.Sorted column) place → (runs : List Run) → AreRunsOf ids runs → AllByRecursion (IsWithin low high) (map (ends_of place.offset) runs)
+    ends_within : IsRawPlace table segment rows (parts.Sorted column) place → (runs : List Run) → AreRunsOf ids runs → AllByRecursion (IsWithin low high) (map (ends_of place.offset) runs)
     ends_within raw runs are =
         let after = raw.after (omega arith) in
         let ends = raw.ends in
@@ -112,16 +112,16 @@ module _ (table : Table) (name : List ℕ) (head : Seen) (rows : List (List Valu
         let count = count_are column loaded in
         each_within low high (count_in head column) 0 (ends_of place.offset) (λ run order lt. record { begins = omega (arith, after); ends = omega (arith, ends, long, size, count, lt) }) runs are.0 (run_lasts ids runs (count_in head column) are (ids_below column test))
 
-    sorted_lies : IsRawPlace table name rows (parts.Sorted column) place → (old new : Option (List Entry)) → LogsSorted ids place.file place.offset old new → LogsThat (LiesIn place.file low high) old new
+    sorted_lies : IsRawPlace table segment rows (parts.Sorted column) place → (old new : Option (List Entry)) → LogsSorted ids place.file place.offset old new → LogsThat (LiesIn place.file low high) old new
     sorted_lies raw old new (runs, are, logs) = over_lies place.file low high (map (ends_of place.offset) runs) old new (ends_within raw runs are) logs
 
-    sorted_partly : IsRawPlace table name rows (parts.Sorted column) place → (old new : Option (List Entry)) → LogsSortedPartly ids place.file place.offset old new → LogsThat (LiesIn place.file low high) old new
+    sorted_partly : IsRawPlace table segment rows (parts.Sorted column) place → (old new : Option (List Entry)) → LogsSortedPartly ids place.file place.offset old new → LogsThat (LiesIn place.file low high) old new
     sorted_partly raw old new (inl same) = same_lies place.file low high old new same
     sorted_partly raw old new (inr (runs, are, logs)) = partly_lies place.file low high (map (ends_of place.offset) runs) old new (ends_within raw runs are) logs
 
     -- ---- an inverted index
 
-    offsets_within : IsRawPlace table name rows (parts.Inverted column) place → (runs : List Run) → AreRunsOf ids runs → AllByRecursion (IsWithin low high) (map (offsets_of place.offset) runs)
+    offsets_within : IsRawPlace table segment rows (parts.Inverted column) place → (runs : List Run) → AreRunsOf ids runs → AllByRecursion (IsWithin low high) (map (offsets_of place.offset) runs)
     offsets_within raw runs are =
         let after = raw.after (omega arith) in
         let ends = raw.ends in
@@ -130,7 +130,7 @@ module _ (table : Table) (name : List ℕ) (head : Seen) (rows : List (List Valu
         let count = count_are column loaded in
         each_within low high (count_in head column) 0 (offsets_of place.offset) (λ run order lt. record { begins = omega (arith, after); ends = omega (arith, ends, long, size, count, lt) }) runs are.0 (run_lasts ids runs (count_in head column) are (ids_below column test))
 
-    keys_within : IsRawPlace table name rows (parts.Inverted column) place → (ps : List Ends) → Rising 0 head.rows ps → AllByRecursion (IsWithin low high) (map (entries_at place.offset (count_in head column)) ps)
+    keys_within : IsRawPlace table segment rows (parts.Inverted column) place → (ps : List Ends) → Rising 0 head.rows ps → AllByRecursion (IsWithin low high) (map (entries_at place.offset (count_in head column)) ps)
     keys_within raw ps rising =
         let after = raw.after (omega arith) in
         let ends = raw.ends in
@@ -140,13 +140,13 @@ module _ (table : Table) (name : List ℕ) (head : Seen) (rows : List (List Valu
         let many = tells.rows_are in
         entries_within low high place.offset (count_in head column) head.rows 0 (omega (arith, after)) (omega (arith, ends, long, size, count, many)) ps rising
 
-    postings_lie : IsRawPlace table name rows (parts.Inverted column) place → (held : Option Files) (old new : Option (List Entry)) → LogsPostings ids held place (count_in head column) head.rows old new → LogsThat (LiesIn place.file low high) old new
+    postings_lie : IsRawPlace table segment rows (parts.Inverted column) place → (held : Option Files) (old new : Option (List Entry)) → LogsPostings ids held place (count_in head column) head.rows old new → LogsThat (LiesIn place.file low high) old new
     postings_lie raw held old new (runs, are, ps, stand, between, first, second) =
         entries_then (LiesIn place.file low high) old between new
         (over_lies place.file low high (map (offsets_of place.offset) runs) old between (offsets_within raw runs are) first)
         (over_lies place.file low high (map (entries_at place.offset (count_in head column)) ps) between new (keys_within raw ps stand.0) second)
 
-    postings_partly : IsRawPlace table name rows (parts.Inverted column) place → (held : Option Files) (old new : Option (List Entry)) → LogsPostingsPartly ids held place (count_in head column) head.rows old new → LogsThat (LiesIn place.file low high) old new
+    postings_partly : IsRawPlace table segment rows (parts.Inverted column) place → (held : Option Files) (old new : Option (List Entry)) → LogsPostingsPartly ids held place (count_in head column) head.rows old new → LogsThat (LiesIn place.file low high) old new
     postings_partly raw held old new (inl same) = same_lies place.file low high old new same
     postings_partly raw held old new (inr (inl (runs, are, logs))) = partly_lies place.file low high (map (offsets_of place.offset) runs) old new (offsets_within raw runs are) logs
     postings_partly raw held old new (inr (inr (runs, are, ps, stand, between, first, second))) =
@@ -156,7 +156,7 @@ module _ (table : Table) (name : List ℕ) (head : Seen) (rows : List (List Valu
 
     -- ---- a range index
 
-    module _ (consecutive : are_consecutive ids ≡ true) (raw : IsRawPlace table name rows (parts.Range column) place) where
+    module _ (consecutive : are_consecutive ids ≡ true) (raw : IsRawPlace table segment rows (parts.Range column) place) where
       last_below : last_of ids < count_in head column
       last_below = let some = some_ids ids consecutive in ids_below column test (length ids - 1) 0 (omega (arith, some))
 
@@ -195,11 +195,11 @@ module _ (table : Table) (name : List ℕ) (head : Seen) (rows : List (List Valu
   -- ---- the index of a conjunct
 
   module _ (held : Option Files) (old new : Option (List Entry)) where
-    own_file : (p : Part) (place : Place) → IsRawPlace table name rows p place → LogsThat (LiesIn place.file low high) old new → LogsThat LiesBehind old new
+    own_file : (p : Part) (place : Place) → IsRawPlace table segment rows p place → LogsThat (LiesIn place.file low high) old new → LogsThat LiesBehind old new
     own_file p place raw logs = subst (λ f. LogsThat (LiesIn f low high) old new) raw.file_is logs
 
     none_behind : new ≡ old → LogsThat LiesBehind old new
-    none_behind same = same_lies (file_of name) low high old new same
+    none_behind same = same_lies segment.file low high old new same
 
     pub indexed_behind : (choice : IndexChoice) (conjunct : Conjunct) → IsReady head choice conjunct → LogsIndexed held head choice conjunct old new → LogsThat LiesBehind old new
     indexed_behind choices.Sorted (One column test) is logs =

@@ -20,12 +20,12 @@ use Rattle.segment_file.specs.declared.part.Part.TheVariants as parts
 use Rattle.segment_file.specs.Front.{Front, extents_from, extents_of, front_size}
 use Rattle.segment_head.specs.Heads.{place_in, placed}
 use Rattle.segment_file.specs.Image.{count_of, front_of, ids_of, section_of}
-use Rattle.segment_file.specs.Names.{file_of}
 use Rattle.segment_file.specs.Parts.{columns_of, head_sections, is_same, kind_of, marked, owner_of, raw_sections, sections_of, trees_of}
 use Rattle.segment_scan.proofs.ImageLemmas.{ids-below, ids-count}
 use Rattle.segment_reads.specs.Reads.{forward_span, raw_span, star_span}
 use Rattle.segment_reads.proofs.LogLemmas.{fewer_summed}
 use Rattle.segment_head.proofs.SectionLemmas.{first_true, rest_true}
+use Rattle.segment_head.specs.declared.stored.Stored.{Stored}
 
 -- ---- a place that is found
 
@@ -165,13 +165,13 @@ raw_before table at at_most kind =
 -- ---- the sections of the rows of an image
 
 -- where a section of the rows is: before the documents of the star-trees, and after the forward indexes where it is none of them; it has as many bytes as the image has for it
-pub record IsRawPlace (table : Table) (name : List ℕ) (rows : List (List Value)) (p : Part) (place : Place) : Type 0 where
-  pub file_is : place.file ≡ file_of name
-  pub ends : place.offset + place.length ≤ (raw_span table name rows).to
+pub record IsRawPlace (table : Table) (segment : Stored) (rows : List (List Value)) (p : Part) (place : Place) : Type 0 where
+  pub file_is : place.file ≡ segment.file
+  pub ends : place.offset + place.length ≤ (raw_span table segment.name rows).to
   pub long : place.length ≡ length (section_of table rows p)
-  pub after : 4 < kind_of p → (forward_span table name rows).to ≤ place.offset
+  pub after : 4 < kind_of p → (forward_span table segment.name rows).to ≤ place.offset
 
-module _ (table : Table) (name : List ℕ) (rows : List (List Value)) where
+module _ (table : Table) (segment : Stored) (rows : List (List Value)) where
   abbrev front : Front
   front = front_of 1 table rows
 
@@ -180,9 +180,9 @@ module _ (table : Table) (name : List ℕ) (rows : List (List Value)) where
   size_at (p ∷ ps) zero lt = refl
   size_at (p ∷ ps) (suc at) lt = size_at ps at (omega (arith, lt))
 
-  pub raw_place : (p : Part) (place : Place) → 0 < kind_of p → kind_of p < 8 → place_in (map (placed (file_of name)) (extents_of table name front)) p ≡ Some place → IsRawPlace table name rows p place
+  pub raw_place : (p : Part) (place : Place) → 0 < kind_of p → kind_of p < 8 → place_in (map (placed segment.file) (extents_of table segment.name front)) p ≡ Some place → IsRawPlace table segment rows p place
   raw_place p place some at_most is =
-      let f = found_at (file_of name) p place (front_size table name) (sections_of table) front.sizes is in
+      let f = found_at segment.file p place (front_size table segment.name) (sections_of table) front.sizes is in
       let from = f.from in
       let to = f.to in
       let within = f.at_most in
@@ -201,7 +201,7 @@ module _ (table : Table) (name : List ℕ) (rows : List (List Value)) where
       }
 
   -- the documents of the star-trees follow
-  pub stars_after : (t : ℕ) → (raw_span table name rows).to ≤ (star_span table name rows t).from
+  pub stars_after : (t : ℕ) → (raw_span table segment.name rows).to ≤ (star_span table segment.name rows t).from
   stars_after t =
       let less = fewer_summed front.sizes (length (head_sections table) + length (raw_sections table)) (length (head_sections table) + length (raw_sections table) + t) (omega arith) in
       omega (arith, less)

@@ -15,7 +15,6 @@ use Rattle.table_schema.specs.ValidTable.{IsValidTable}
 use Rattle.segment_file.specs.Front.{extents_of}
 use Rattle.segment_head.specs.Heads.{IsHeadOf, Seen, placed}
 use Rattle.segment_file.specs.Image.{front_of}
-use Rattle.segment_file.specs.Names.{file_of}
 use Rattle.segment_file.specs.Ordered.{ordered}
 use Rattle.segment_plan.specs.Laws.{TellsOf}
 use Rattle.segment_plan.specs.declared.plans.IndexChoice.{IndexChoice}
@@ -52,6 +51,7 @@ use Rattle.std.specs.List.{range_with_len}
 use Rattle.segment_plan.specs.declared.plans.SegmentPlan.TheVariants.{Scan}
 use Rattle.segment_reads.specs.Looked.{docs_by}
 use Rattle.segment_scan.proofs.ForwardReads.{LiesBefore, columns_before, columns_grow, docs_before, docs_grow, partly_before, partly_grow, some_before, some_grow}
+use Rattle.segment_head.specs.declared.stored.Stored.{Stored}
 
 -- ---- where no conjunct is indexed
 
@@ -79,31 +79,31 @@ rest_is query cs none = ap (λ l. record query { conjuncts = l }) (all_unserved 
 
 -- ---- a scan of an image
 
-module _ (query : BoundQuery) (table : Table) (name : List ℕ) (head : Seen) (rows : List (List Value)) (of_table : IsHeadOf table head) (loaded : AreNamedLoaded query head)
-    (sections : head.sections ≡ map (placed (file_of name)) (extents_of table name (front_of 1 table rows))) (tells : TellsOf table rows head) (held : Option Files) where
+module _ (query : BoundQuery) (table : Table) (segment : Stored) (head : Seen) (rows : List (List Value)) (of_table : IsHeadOf table head) (loaded : AreNamedLoaded query head)
+    (sections : head.sections ≡ map (placed segment.file) (extents_of table segment.name (front_of 1 table rows))) (tells : TellsOf table rows head) (held : Option Files) where
   abbrev Early : Entry → Type 0
-  Early = LiesBefore table name head rows sections tells of_table
+  Early = LiesBefore table segment head rows sections tells of_table
 
   abbrev Behind : Entry → Type 0
-  Behind = LiesBehind table name head rows sections tells
+  Behind = LiesBehind table segment head rows sections tells
 
   abbrev rest : BoundQuery
   rest = rest_for query table head
 
   -- the told log grew by reads that gave at most so many bytes of the forward indexes
   abbrev LogsMost : ℕ → Option (List Entry) → Option (List Entry) → Type 0
-  LogsMost most old new = (x : List Entry) × (new ≡ option_map (λ l. l ++ x) old) × (bytes_read x name (forward_span table name rows) ≤ most)
+  LogsMost most old new = (x : List Entry) × (new ≡ option_map (λ l. l ++ x) old) × (bytes_read x segment (forward_span table segment.name rows) ≤ most)
 
   most_grown : (most : ℕ) (a b : Option (List Entry)) → GrowsBy most a b → LogsMost most a b
-  most_grown most a b (x, made, at_most) = (x, made, let less = read_few x (file_of name) (forward_span table name rows).from (forward_span table name rows).to in omega (arith, less, at_most))
+  most_grown most a b (x, made, at_most) = (x, made, let less = read_few x segment.file (forward_span table segment.name rows).from (forward_span table segment.name rows).to in omega (arith, less, at_most))
 
   none_behind : (a b : Option (List Entry)) → LogsThat Behind a b → LogsMost 0 a b
   none_behind a b (x, made, all) =
-      (x, made, let none = after_part (file_of name) (forward_span table name rows).to (forward_span table name rows).from (forward_span table name rows).to (raw_span table name rows).to x (omega arith) all in omega (arith, none))
+      (x, made, let none = after_part segment.file (forward_span table segment.name rows).to (forward_span table segment.name rows).from (forward_span table segment.name rows).to (raw_span table segment.name rows).to x (omega arith) all in omega (arith, none))
 
   most_then : (most : ℕ) (a b c : Option (List Entry)) → LogsMost 0 a b → LogsMost most b c → LogsMost most a c
   most_then most a b c (x, made, none) (y, next, at_most) =
-      let sum = read_in-append x y (file_of name) (forward_span table name rows).from (forward_span table name rows).to in
+      let sum = read_in-append x y segment.file (forward_span table segment.name rows).from (forward_span table segment.name rows).to in
       (x ++ y, next ∙ ap (option_map (λ l. l ++ y)) made ∙ join_logs a x y, omega (arith, sum, none, at_most))
 
   most_less : (less most : ℕ) (a b : Option (List Entry)) → less ≤ most → LogsMost less a b → LogsMost most a b
@@ -146,7 +146,7 @@ module _ (query : BoundQuery) (table : Table) (name : List ℕ) (head : Seen) (r
       one : (at : ℕ) → at < length query.conjuncts → (a b : Option (List Entry)) → LogsAt held head (choices_for query table head) query.conjuncts at a b → LogsThat Behind a b
       one at lt a b logs =
           let (conjunct, is) = at_place query.conjuncts at lt in
-          indexed_behind table name head rows sections tells held a b (choice_at (choices_for query table head) at) conjunct (ready_for query table head of_table loaded at conjunct is) (logs conjunct is)
+          indexed_behind table segment head rows sections tells held a b (choice_at (choices_for query table head) at) conjunct (ready_for query table head of_table loaded at conjunct is) (logs conjunct is)
 
   indexes_partly : (a b : Option (List Entry)) → LogsPartOf (LogsAt held head (choices_for query table head) query.conjuncts) (LogsAtPartly held head (choices_for query table head) query.conjuncts) (length query.conjuncts) a b → LogsThat Behind a b
   indexes_partly a b logs =
@@ -155,12 +155,12 @@ module _ (query : BoundQuery) (table : Table) (name : List ℕ) (head : Seen) (r
       whole : (at : ℕ) → at < length query.conjuncts → (a b : Option (List Entry)) → LogsAt held head (choices_for query table head) query.conjuncts at a b → LogsThat Behind a b
       whole at lt a b logs =
           let (conjunct, is) = at_place query.conjuncts at lt in
-          indexed_behind table name head rows sections tells held a b (choice_at (choices_for query table head) at) conjunct (ready_for query table head of_table loaded at conjunct is) (logs conjunct is)
+          indexed_behind table segment head rows sections tells held a b (choice_at (choices_for query table head) at) conjunct (ready_for query table head of_table loaded at conjunct is) (logs conjunct is)
 
       partly : (at : ℕ) → at < length query.conjuncts → (a b : Option (List Entry)) → LogsAtPartly held head (choices_for query table head) query.conjuncts at a b → LogsThat Behind a b
       partly at lt a b logs =
           let (conjunct, is) = at_place query.conjuncts at lt in
-          indexed_partly table name head rows sections tells held a b (choice_at (choices_for query table head) at) conjunct (ready_for query table head of_table loaded at conjunct is) (logs conjunct is)
+          indexed_partly table segment head rows sections tells held a b (choice_at (choices_for query table head) at) conjunct (ready_for query table head of_table loaded at conjunct is) (logs conjunct is)
 
   -- so many documents are left by the indexes: all rows where there is none
   module _ (n : ℕ) (all : indexed_for query table head ≡ [] → head.rows ≡ n) (at_most : (docs : List ℕ) → AreLeftFor query table held head docs → length docs ≡ n) where
@@ -190,20 +190,20 @@ module _ (query : BoundQuery) (table : Table) (name : List ℕ) (head : Seen) (r
     pub scan_bytes : (count : ℕ) (a b : Option (List Entry)) → LogsScan query table held head count a b → LogsMost most a b × LogsThat Early a b
     scan_bytes count a b (inl (none, logs)) =
         let long = names_count in (
-          by_most (4 * head.rows * marked_count (names_in query table)) a b (all_most none) (columns_grow table name head rows sections tells of_table (names_in query table) (readable query loaded) (length table.schema.fields) (omega (arith, long)) a b logs),
-          columns_before table name head rows sections tells of_table (names_in query table) (readable query loaded) (length table.schema.fields) (omega (arith, long)) a b logs,
+          by_most (4 * head.rows * marked_count (names_in query table)) a b (all_most none) (columns_grow table segment head rows sections tells of_table (names_in query table) (readable query loaded) (length table.schema.fields) (omega (arith, long)) a b logs),
+          columns_before table segment head rows sections tells of_table (names_in query table) (readable query loaded) (length table.schema.fields) (omega (arith, long)) a b logs,
         )
     scan_bytes count a b (inr (docs, left, is, between, indexes, logs)) =
         let behind = indexes_behind a between indexes in (
           most_then most a between b (none_behind a between behind)
               (most_grown most between b
               (grows_both (4 * length logs.check * marked_count (names_in rest table)) (4 * length logs.sure * marked_count (names_in (sure_for query table head) table)) most between logs.between b (parts_most docs logs.check logs.sure left logs.count)
-              (docs_grow table name head rows sections tells of_table (names_in rest table) left_readable logs.check logs.check_within between logs.between logs.checked)
-              (docs_grow table name head rows sections tells of_table (names_in (sure_for query table head) table) sure_readable logs.sure logs.sure_within logs.between b logs.surely))),
+              (docs_grow table segment head rows sections tells of_table (names_in rest table) left_readable logs.check logs.check_within between logs.between logs.checked)
+              (docs_grow table segment head rows sections tells of_table (names_in (sure_for query table head) table) sure_readable logs.sure logs.sure_within logs.between b logs.surely))),
           entries_then Early a between b (early_behind a between behind)
               (entries_then Early between logs.between b
-              (docs_before table name head rows sections tells of_table (names_in rest table) left_readable logs.check logs.check_within between logs.between logs.checked)
-              (docs_before table name head rows sections tells of_table (names_in (sure_for query table head) table) sure_readable logs.sure logs.sure_within logs.between b logs.surely)),
+              (docs_before table segment head rows sections tells of_table (names_in rest table) left_readable logs.check logs.check_within between logs.between logs.checked)
+              (docs_before table segment head rows sections tells of_table (names_in (sure_for query table head) table) sure_readable logs.sure logs.sure_within logs.between b logs.surely)),
         )
 
     -- what was read of both parts
@@ -216,22 +216,22 @@ module _ (query : BoundQuery) (table : Table) (name : List ℕ) (head : Seen) (r
         by : LogsDocsPartly head (names_in rest table) logs.check a b ⊎ ((between : Option (List Entry)) × LogsDocs head (names_in rest table) logs.check a between × LogsDocsPartly head (names_in (sure_for query table head) table) logs.sure between b) → LogsMost most a b × LogsThat Early a b
         by (inl first) = (
           most_less (4 * length logs.check * marked_count (names_in rest table)) most a b (omega (arith, bound))
-              (most_grown (4 * length logs.check * marked_count (names_in rest table)) a b (partly_grow table name head rows sections tells of_table (names_in rest table) left_readable logs.check logs.check_within a b first)),
-          partly_before table name head rows sections tells of_table (names_in rest table) left_readable logs.check logs.check_within a b first,
+              (most_grown (4 * length logs.check * marked_count (names_in rest table)) a b (partly_grow table segment head rows sections tells of_table (names_in rest table) left_readable logs.check logs.check_within a b first)),
+          partly_before table segment head rows sections tells of_table (names_in rest table) left_readable logs.check logs.check_within a b first,
         )
         by (inr (between, first, second)) = (
           most_grown most a b
               (grows_both (4 * length logs.check * marked_count (names_in rest table)) (4 * length logs.sure * marked_count (names_in (sure_for query table head) table)) most a between b bound
-              (docs_grow table name head rows sections tells of_table (names_in rest table) left_readable logs.check logs.check_within a between first)
-              (partly_grow table name head rows sections tells of_table (names_in (sure_for query table head) table) sure_readable logs.sure logs.sure_within between b second)),
-          entries_then Early a between b (docs_before table name head rows sections tells of_table (names_in rest table) left_readable logs.check logs.check_within a between first)
-              (partly_before table name head rows sections tells of_table (names_in (sure_for query table head) table) sure_readable logs.sure logs.sure_within between b second),
+              (docs_grow table segment head rows sections tells of_table (names_in rest table) left_readable logs.check logs.check_within a between first)
+              (partly_grow table segment head rows sections tells of_table (names_in (sure_for query table head) table) sure_readable logs.sure logs.sure_within between b second)),
+          entries_then Early a between b (docs_before table segment head rows sections tells of_table (names_in rest table) left_readable logs.check logs.check_within a between first)
+              (partly_before table segment head rows sections tells of_table (names_in (sure_for query table head) table) sure_readable logs.sure logs.sure_within between b second),
         )
 
     pub partly_bytes : (a b : Option (List Entry)) → LogsScanPartly query table held head a b → LogsMost most a b × LogsThat Early a b
     partly_bytes a b (inl (none, logs)) = (
-      by_most (4 * head.rows * marked_count (names_in query table)) a b (all_most none) (some_grow table name head rows sections tells of_table (names_in query table) (readable query loaded) a b logs),
-      some_before table name head rows sections tells of_table (names_in query table) (readable query loaded) a b logs,
+      by_most (4 * head.rows * marked_count (names_in query table)) a b (all_most none) (some_grow table segment head rows sections tells of_table (names_in query table) (readable query loaded) a b logs),
+      some_before table segment head rows sections tells of_table (names_in query table) (readable query loaded) a b logs,
     )
     partly_bytes a b (inr (inl logs)) =
         let behind = indexes_partly a b logs in
@@ -242,27 +242,27 @@ module _ (query : BoundQuery) (table : Table) (name : List ℕ) (head : Seen) (r
         (most_then most a between b (none_behind a between behind) own.0, entries_then Early a between b (early_behind a between behind) own.1)
 
     -- such reads are those of the scan
-    reads_so : (plan : ScanPlan) (a b : Option (List Entry)) → plan.choices ≡ choices_for query table head → n ≡ docs_by query table rows (Scan plan) → LogsMost most a b × LogsThat Early a b → Grown (ReadsScan query table name rows plan) a b
+    reads_so : (plan : ScanPlan) (a b : Option (List Entry)) → plan.choices ≡ choices_for query table head → n ≡ docs_by query table rows (Scan plan) → LogsMost most a b × LogsThat Early a b → Grown (ReadsScan query table segment rows plan) a b
     reads_so plan a b chosen counted ((x, made, less), early) = λ before entries is now. record {
-      stars = λ t. before_part (file_of name) (raw_span table name rows).to (star_span table name rows t).from (star_span table name rows t).to entries (stars_after table name rows t)
-          (grown_that (EndsBy (file_of name) (raw_span table name rows).to) a b (lies_end (file_of name) 0 (raw_span table name rows).to a b early) before entries is now);
-      forward = subst (λ m. bytes_read entries name (forward_span table name rows) ≤ m) same (grown_so (λ y. bytes_read y name (forward_span table name rows) ≤ most) a b x made less before entries is now);
+      stars = λ t. before_part segment.file (raw_span table segment.name rows).to (star_span table segment.name rows t).from (star_span table segment.name rows t).to entries (stars_after table segment rows t)
+          (grown_that (EndsBy segment.file (raw_span table segment.name rows).to) a b (lies_end segment.file 0 (raw_span table segment.name rows).to a b early) before entries is now);
+      forward = subst (λ m. bytes_read entries segment (forward_span table segment.name rows) ≤ m) same (grown_so (λ y. bytes_read y segment (forward_span table segment.name rows) ≤ most) a b x made less before entries is now);
     }
       where
         same : most ≡ 4 * docs_by query table rows (Scan plan) * marked_count (names_in (rest_of query plan.choices) table)
         same = (λ i. 4 * counted i * marked_count (names_in (rest_of query (sym chosen i)) table))
 
     -- what a scan read, whole or in part
-    pub scan_read : (plan : ScanPlan) (count : ℕ) (a b : Option (List Entry)) → plan.choices ≡ choices_for query table head → n ≡ docs_by query table rows (Scan plan) → LogsScan query table held head count a b → Grown (ReadsScan query table name rows plan) a b
+    pub scan_read : (plan : ScanPlan) (count : ℕ) (a b : Option (List Entry)) → plan.choices ≡ choices_for query table head → n ≡ docs_by query table rows (Scan plan) → LogsScan query table held head count a b → Grown (ReadsScan query table segment rows plan) a b
     scan_read plan count a b chosen counted logs = reads_so plan a b chosen counted (scan_bytes count a b logs)
 
-    pub scan_read_partly : (plan : ScanPlan) (a b : Option (List Entry)) → plan.choices ≡ choices_for query table head → n ≡ docs_by query table rows (Scan plan) → LogsScanPartly query table held head a b → Grown (ReadsScan query table name rows plan) a b
+    pub scan_read_partly : (plan : ScanPlan) (a b : Option (List Entry)) → plan.choices ≡ choices_for query table head → n ≡ docs_by query table rows (Scan plan) → LogsScanPartly query table held head a b → Grown (ReadsScan query table segment rows plan) a b
     scan_read_partly plan a b chosen counted logs = reads_so plan a b chosen counted (partly_bytes a b logs)
 
 -- ---- where the file is told to be the image of rows
 
-module _ (law : ImagesRead) (leave : ImagesLeave) (query : BoundQuery) (table : Table) (name : List ℕ) (head : Seen) (stored : List (List Value)) (valid : IsValidTable table) (of_table : IsHeadOf table head) (loaded : AreNamedLoaded query head)
-    (sections : head.sections ≡ map (placed (file_of name)) (extents_of table name (front_of 1 table (ordered table.settings.sorted stored)))) (tells : TellsOf table (ordered table.settings.sorted stored) head) (files : Files) (of : IsOfImage table files stored head)
+module _ (law : ImagesRead) (leave : ImagesLeave) (query : BoundQuery) (table : Table) (segment : Stored) (head : Seen) (stored : List (List Value)) (valid : IsValidTable table) (of_table : IsHeadOf table head) (loaded : AreNamedLoaded query head)
+    (sections : head.sections ≡ map (placed segment.file) (extents_of table segment.name (front_of 1 table (ordered table.settings.sorted stored)))) (tells : TellsOf table (ordered table.settings.sorted stored) head) (files : Files) (of : IsOfImage table files stored head)
     (plan : ScanPlan) (chosen : plan.choices ≡ choices_for query table head) where
   abbrev os : List (List Value)
   os = ordered table.settings.sorted stored
@@ -277,9 +277,9 @@ module _ (law : ImagesRead) (leave : ImagesLeave) (query : BoundQuery) (table : 
   some_docs docs left = left_count law leave query table head valid of_table loaded docs files stored of left ∙ left_are
 
   -- a scan read at most four bytes of the forward indexes for each document that the indexes leave and each column that is named beside the served conjuncts
-  pub image_scan : (count : ℕ) (a b : Option (List Entry)) → LogsScan query table (Some files) head count a b → Grown (ReadsScan query table name os plan) a b
-  image_scan count a b logs = scan_read query table name head os of_table loaded sections tells (Some files) (docs_by query table os (Scan plan)) all_rows some_docs plan count a b chosen refl logs
+  pub image_scan : (count : ℕ) (a b : Option (List Entry)) → LogsScan query table (Some files) head count a b → Grown (ReadsScan query table segment os plan) a b
+  image_scan count a b logs = scan_read query table segment head os of_table loaded sections tells (Some files) (docs_by query table os (Scan plan)) all_rows some_docs plan count a b chosen refl logs
 
   -- and no more where it failed
-  pub image_scan_partly : (a b : Option (List Entry)) → LogsScanPartly query table (Some files) head a b → Grown (ReadsScan query table name os plan) a b
-  image_scan_partly a b logs = scan_read_partly query table name head os of_table loaded sections tells (Some files) (docs_by query table os (Scan plan)) all_rows some_docs plan a b chosen refl logs
+  pub image_scan_partly : (a b : Option (List Entry)) → LogsScanPartly query table (Some files) head a b → Grown (ReadsScan query table segment os plan) a b
+  image_scan_partly a b logs = scan_read_partly query table segment head os of_table loaded sections tells (Some files) (docs_by query table os (Scan plan)) all_rows some_docs plan a b chosen refl logs

@@ -1,7 +1,9 @@
 //! The rows of some documents of a segment, added to the groups of a query.
 
 ghost use Rattle.std.specs.Prelude.{◌≡◌, ◌<◌, ◌≤◌, ℕ, All, Err, IfOk, IfSome, OnOk, false, get_or, length, true};
+ghost use Rattle.std.specs.FinMap as finite;
 ghost use Rattle.outside.specs.Seen.{seen};
+ghost use Rattle.group_table.specs.Kept.{groups_in};
 ghost use Rattle.scan_engine.specs.Scanned.{IsOverfull};
 ghost use Rattle.segment_file.specs.declared.part.Part.{Part};
 ghost use Rattle.segment_file.specs.declared.part.Part.TheVariants.{Forward};
@@ -46,6 +48,8 @@ pub(crate) fn scan_documents<S: Shelf>(
     ensures full { result ≡ Err TooManyGroups → IfSome (S.held shelf.old) (λ files. IsOverfull
         answered.now.query.now (selected_docs answered.now.query.now choices.now files
         answered.now.head.now named.now docs.now) groups.old) }
+    ensures filled { result ≡ Err TooManyGroups →
+        finite.len (groups_in groups.new) ≡ groups.old.most }
     ensures bad { (part : Part) → result ≡ Err (NotASegment part) → (column : ℕ)
         × (get_or named.now column false ≡ true) × (part ≡ Forward column)
         × IfSome (S.held shelf.old) (λ files. ¬ HasIds files answered.now.head.now column) }

@@ -1,7 +1,9 @@
 //! The rows that the indexes of a segment leave.
 
 ghost use Rattle.std.specs.Prelude.{◌≡◌, ◌<◌, All, Err, IfOk, IfSome, OnOk, length};
+ghost use Rattle.std.specs.FinMap as finite;
 ghost use Rattle.outside.specs.Seen.{seen};
+ghost use Rattle.group_table.specs.Kept.{groups_in};
 ghost use Rattle.scan_engine.specs.Scanned.{IsOverfull};
 ghost use Rattle.column_reader.specs.Calls.{ReadsSections};
 ghost use Rattle.segment_scan.specs.Scans.{IsScannable};
@@ -49,6 +51,8 @@ pub(crate) fn scan_left<S: Shelf>(
         (S.held shelf.old) answered.now.head.now groups.old groups.new) }
     ensures full { result ≡ Err TooManyGroups → IsImageOverfull answered.now.query.now
         answered.now.table.now (S.held shelf.old) answered.now.head.now groups.old }
+    ensures filled { result ≡ Err TooManyGroups →
+        finite.len (groups_in groups.new) ≡ groups.old.most }
     ensures bad { (part : Part) → result ≡ Err (NotASegment part) →
         IsBadForward (rest_for answered.now.query.now answered.now.table.now
         answered.now.head.now) (S.held shelf.old) answered.now.head.now part
@@ -95,6 +99,8 @@ fn scan_part<S: Shelf>(
         answered.now.query.now (selected_docs answered.now.query.now choices.now files
         answered.now.head.now (names_in (rest_of answered.now.query.now choices.now)
         answered.now.table.now) docs.now) groups.old) }
+    ensures filled { result ≡ Err TooManyGroups →
+        finite.len (groups_in groups.new) ≡ groups.old.most }
     ensures bad { (part : Part) → result ≡ Err (NotASegment part) →
         IsBadForward (rest_of answered.now.query.now choices.now) (S.held shelf.old)
         answered.now.head.now part

@@ -1,7 +1,9 @@
 //! A segment is scanned for a query: what the query names is read, and the rows are added.
 
 ghost use Rattle.std.specs.Prelude.{◌≡◌, ◌<◌, ◌≤◌, ℕ, List, Err, IfOk, IfSome, None, OnOk, Some, false, get_or, length, true};
+ghost use Rattle.std.specs.FinMap as finite;
 ghost use Rattle.outside.specs.Seen.{seen};
+ghost use Rattle.group_table.specs.Kept.{groups_in};
 ghost use Rattle.scan_engine.specs.Scanned.{IsOverfull};
 ghost use Rattle.segment_head.specs.Heads.{IsLoaded};
 ghost use Rattle.segment_file.specs.declared.part.Part.{Part};
@@ -62,6 +64,8 @@ pub(crate) fn scan_columns<S: Shelf>(
         groups.old groups.new) }
     ensures full { result ≡ Err TooManyGroups → IfSome (S.held shelf.old) (λ files.
         IsOverfull query.now (selected_read query.now files head.now named.now) groups.old) }
+    ensures filled { result ≡ Err TooManyGroups →
+        finite.len (groups_in groups.new) ≡ groups.old.most }
     ensures bad { (part : Part) → result ≡ Err (NotASegment part) → (column : ℕ)
         × (get_or named.now column false ≡ true) × (part ≡ Forward column)
         × IfSome (S.held shelf.old) (λ files. ¬ HasIds files head.now column) }

@@ -1,7 +1,9 @@
 //! A segment of a table is scanned for a query.
 
 ghost use Rattle.std.specs.Prelude.{◌≡◌, Err, IfOk, OnOk};
+ghost use Rattle.std.specs.FinMap as finite;
 ghost use Rattle.outside.specs.Seen.{seen};
+ghost use Rattle.group_table.specs.Kept.{groups_in};
 ghost use Rattle.segment_file.specs.declared.part.Part.{Part};
 ghost use Rattle.segment_scan.specs.Images.{AddsImage, AreDocs, IsBadIn, IsImageOverfull, LogsScan, LogsScanPartly, choices_for};
 ghost use Rattle.column_reader.specs.Calls.{ReadsSections};
@@ -44,6 +46,8 @@ pub fn scan_segment<S: Shelf>(
         groups.old groups.new) }
     ensures full { result ≡ Err TooManyGroups →
         IsImageOverfull query.now table.now (S.held shelf.old) head.now groups.old }
+    ensures filled { result ≡ Err TooManyGroups →
+        finite.len (groups_in groups.new) ≡ groups.old.most }
     ensures bad { (part : Part) → result ≡ Err (NotASegment part) →
         IsBadIn query.now table.now (S.held shelf.old) head.now part }
     ensures reads { ReadsSections result

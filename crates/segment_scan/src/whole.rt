@@ -1,7 +1,9 @@
 //! All rows of a segment are looked at.
 
 ghost use Rattle.std.specs.Prelude.{◌≡◌, Err, IfOk, OnOk, length};
+ghost use Rattle.std.specs.FinMap as finite;
 ghost use Rattle.outside.specs.Seen.{seen};
+ghost use Rattle.group_table.specs.Kept.{groups_in};
 ghost use Rattle.segment_file.specs.declared.part.Part.{Part};
 ghost use Rattle.column_reader.specs.Forward.{LogsColumns, LogsSome};
 ghost use Rattle.column_reader.specs.Calls.{ReadsSections};
@@ -36,6 +38,8 @@ pub(crate) fn scan_whole<S: Shelf>(
         groups.old groups.new) }
     ensures full { result ≡ Err TooManyGroups →
         IsWholeOverfull query.now table.now (S.held shelf.old) head.now groups.old }
+    ensures filled { result ≡ Err TooManyGroups →
+        finite.len (groups_in groups.new) ≡ groups.old.most }
     ensures bad { (part : Part) → result ≡ Err (NotASegment part) →
         IsBadWhole query.now table.now (S.held shelf.old) head.now part }
     ensures reads { ReadsSections result (λ _. LogsColumns head.now

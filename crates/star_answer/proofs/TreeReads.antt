@@ -16,7 +16,6 @@ use Rattle.segment_file.specs.declared.part.Part.TheVariants as parts
 use Rattle.segment_file.specs.Front.{extents_of}
 use Rattle.segment_head.specs.Heads.{IsHeadOf, LogsTree, Seen, place_in, placed}
 use Rattle.segment_file.specs.Image.{front_of}
-use Rattle.segment_file.specs.Names.{file_of}
 use Rattle.segment_file.specs.Ordered.{ordered}
 use Rattle.segment_file.specs.Parts.{head_sections, raw_sections, sections_of}
 use Rattle.segment_head.specs.Stored.{IsOfImage, HasImage}
@@ -42,6 +41,7 @@ use Rattle.segment_reads.proofs.PlaceLemmas.{star_place}
 use Rattle.segment_reads.proofs.SpanLemmas.{over_read, overlaps, partly_read, scan_nothing}
 use Rattle.std.proofs.Math.Nat.{mul-sub}
 use Rattle.star_reader.specs.Answers.{stretch_of}
+use Rattle.segment_head.specs.declared.stored.Stored.{Stored}
 
 -- ---- the documents of picks
 
@@ -70,14 +70,14 @@ module _ (place : Place) (width : ℕ) where
       omega (arith, later, last, after)
 
 -- nothing is within it, whatever the plan is
-pub planned_nothing : DocsAreBounded → (query : BoundQuery) (table : Table) (name : List ℕ) (rows : List (List Value)) → IsValidTable table → length rows ≤ most_values → ReadsPlanned query table false name rows []
-planned_nothing law query table name rows valid at_most = by (plan_over query table rows) refl
+pub planned_nothing : DocsAreBounded → (query : BoundQuery) (table : Table) (segment : Stored) (rows : List (List Value)) → IsValidTable table → length rows ≤ most_values → ReadsPlanned query table false segment rows []
+planned_nothing law query table segment rows valid at_most = by (plan_over query table rows) refl
   where
     bounded_by : (t : ℕ) → plan_over query table rows ≡ StarTree t → (o : Option TreeSetting) → slice_get table.settings.trees t ≡ o → IfSome o (λ tree. docs_read query table rows t ≤ tree.shape.leaf * product (factors_over query table rows tree))
     bounded_by t is None at = tt
     bounded_by t is (Some tree) at = law query table rows t tree valid at_most is at
 
-    by : (plan : SegmentPlan) → plan_over query table rows ≡ plan → ReadsBy query table name rows false [] plan
+    by : (plan : SegmentPlan) → plan_over query table rows ≡ plan → ReadsBy query table segment rows false [] plan
     by Pruned is = record { raw = refl; stars = λ t. refl }
     by Empty is = record { raw = refl; stars = λ t. refl }
     by (StarTree t) is = record {
@@ -90,18 +90,18 @@ planned_nothing law query table name rows valid at_most = by (plan_over query ta
         all_trees : (o : Option TreeSetting) → IfSome o (λ tree. 0 ≤ docs_read query table rows t * doc_width tree.shape)
         all_trees None = tt
         all_trees (Some tree) = omega arith
-    by (Scan plan) is = scan_nothing query table name rows plan
+    by (Scan plan) is = scan_nothing query table segment rows plan
 
 -- ---- the documents of a tree
 
-module _ (query : BoundQuery) (table : Table) (name : List ℕ) (os : List (List Value)) (t : ℕ) (lt : t < length table.settings.trees) where
-  raw_before : (raw_span table name os).to ≤ (star_span table name os t).from
+module _ (query : BoundQuery) (table : Table) (segment : Stored) (os : List (List Value)) (t : ℕ) (lt : t < length table.settings.trees) where
+  raw_before : (raw_span table segment.name os).to ≤ (star_span table segment.name os t).from
   raw_before = let less = fewer_summed (front_of 1 table os).sizes (length (head_sections table) + length (raw_sections table)) (length (head_sections table) + length (raw_sections table) + t) (omega arith) in omega (arith, less)
 
-  other_side : (other : ℕ) → other ≢ t → ((star_span table name os other).to ≤ (star_span table name os t).from) ⊎ ((star_span table name os t).to ≤ (star_span table name os other).from)
+  other_side : (other : ℕ) → other ≢ t → ((star_span table segment.name os other).to ≤ (star_span table segment.name os t).from) ⊎ ((star_span table segment.name os t).to ≤ (star_span table segment.name os other).from)
   other_side other ne = by (nat_lt other t) refl
     where
-      by : (b : Bool) → nat_lt other t ≡ b → ((star_span table name os other).to ≤ (star_span table name os t).from) ⊎ ((star_span table name os t).to ≤ (star_span table name os other).from)
+      by : (b : Bool) → nat_lt other t ≡ b → ((star_span table segment.name os other).to ≤ (star_span table segment.name os t).from) ⊎ ((star_span table segment.name os t).to ≤ (star_span table segment.name os other).from)
       by true is =
           let less = ltb-true other t is in
           let le = fewer_summed (front_of 1 table os).sizes (length (head_sections table) + length (raw_sections table) + other + 1) (length (head_sections table) + length (raw_sections table) + t) (omega (arith, less)) in
@@ -112,45 +112,45 @@ module _ (query : BoundQuery) (table : Table) (name : List ℕ) (os : List (List
           inr (omega (arith, le))
 
   -- the place of a tree's documents, and picks that are in it
-  module _ (setting : TreeSetting) (at : slice_get table.settings.trees t ≡ Some setting) (place : Place) (begins : place.offset ≡ (star_span table name os t).from) (ends : place.offset + place.length ≡ (star_span table name os t).to)
+  module _ (setting : TreeSetting) (at : slice_get table.settings.trees t ≡ Some setting) (place : Place) (begins : place.offset ≡ (star_span table segment.name os t).from) (ends : place.offset + place.length ≡ (star_span table segment.name os t).to)
       (picks : List Pick) (many : read_of picks ≡ docs_read query table os t) (inside : AllByRecursion (IsInside place) (stretches_in place setting picks)) where
-    none_raw : overlaps (stretches_in place setting picks) (raw_span table name os).from (raw_span table name os).to ≡ 0
-    none_raw = let less = raw_before in picks_apart place (doc_width setting.shape) (raw_span table name os).from (raw_span table name os).to (inl (omega (arith, less, begins))) picks inside
+    none_raw : overlaps (stretches_in place setting picks) (raw_span table segment.name os).from (raw_span table segment.name os).to ≡ 0
+    none_raw = let less = raw_before in picks_apart place (doc_width setting.shape) (raw_span table segment.name os).from (raw_span table segment.name os).to (inl (omega (arith, less, begins))) picks inside
 
-    none_other : (other : ℕ) → other ≢ t → overlaps (stretches_in place setting picks) (star_span table name os other).from (star_span table name os other).to ≡ 0
-    none_other other ne = picks_apart place (doc_width setting.shape) (star_span table name os other).from (star_span table name os other).to (by (other_side other ne)) picks inside
+    none_other : (other : ℕ) → other ≢ t → overlaps (stretches_in place setting picks) (star_span table segment.name os other).from (star_span table segment.name os other).to ≡ 0
+    none_other other ne = picks_apart place (doc_width setting.shape) (star_span table segment.name os other).from (star_span table segment.name os other).to (by (other_side other ne)) picks inside
       where
-        by : ((star_span table name os other).to ≤ (star_span table name os t).from) ⊎ ((star_span table name os t).to ≤ (star_span table name os other).from) → ((star_span table name os other).to ≤ place.offset) ⊎ (place.offset + place.length ≤ (star_span table name os other).from)
+        by : ((star_span table segment.name os other).to ≤ (star_span table segment.name os t).from) ⊎ ((star_span table segment.name os t).to ≤ (star_span table segment.name os other).from) → ((star_span table segment.name os other).to ≤ place.offset) ⊎ (place.offset + place.length ≤ (star_span table segment.name os other).from)
         by (inl le) = inl (omega (arith, le, begins))
         by (inr le) = inr (omega (arith, le, ends))
 
-    all_own : overlaps (stretches_in place setting picks) (star_span table name os t).from (star_span table name os t).to ≡ docs_read query table os t * doc_width setting.shape
-    all_own = picks_within place (doc_width setting.shape) (star_span table name os t).from (star_span table name os t).to (omega (arith, begins)) (omega (arith, ends)) picks inside ∙ ap (λ n. n * doc_width setting.shape) many
+    all_own : overlaps (stretches_in place setting picks) (star_span table segment.name os t).from (star_span table segment.name os t).to ≡ docs_read query table os t * doc_width setting.shape
+    all_own = picks_within place (doc_width setting.shape) (star_span table segment.name os t).from (star_span table segment.name os t).to (omega (arith, begins)) (omega (arith, ends)) picks inside ∙ ap (λ n. n * doc_width setting.shape) many
 
     bound_at : IfSome (slice_get table.settings.trees t) (λ tree. docs_read query table os t ≤ tree.shape.leaf * product (factors_over query table os tree)) → IfSome (slice_get table.settings.trees t) (λ tree. docs_read query table os t ≤ tree.shape.leaf * product (factors_over query table os tree))
     bound_at b = b
 
-    pub tree_exact : (x : List Entry) → ((f u : ℕ) → read_in x (file_of name) f u ≡ overlaps (stretches_in place setting picks) f u) → IfSome (slice_get table.settings.trees t) (λ tree. docs_read query table os t ≤ tree.shape.leaf * product (factors_over query table os tree)) → ReadsTree query table name os t true x
+    pub tree_exact : (x : List Entry) → ((f u : ℕ) → read_in x segment.file f u ≡ overlaps (stretches_in place setting picks) f u) → IfSome (slice_get table.settings.trees t) (λ tree. docs_read query table os t ≤ tree.shape.leaf * product (factors_over query table os tree)) → ReadsTree query table segment os t true x
     tree_exact x are bounded = record {
-      raw = are (raw_span table name os).from (raw_span table name os).to ∙ none_raw;
-      documents = subst (λ o. IfSome o (λ tree. AreBytes true (bytes_read x name (star_span table name os t)) (docs_read query table os t * doc_width tree.shape))) (sym at)
-          (are (star_span table name os t).from (star_span table name os t).to ∙ all_own);
-      others = λ other ne. are (star_span table name os other).from (star_span table name os other).to ∙ none_other other ne;
+      raw = are (raw_span table segment.name os).from (raw_span table segment.name os).to ∙ none_raw;
+      documents = subst (λ o. IfSome o (λ tree. AreBytes true (bytes_read x segment (star_span table segment.name os t)) (docs_read query table os t * doc_width tree.shape))) (sym at)
+          (are (star_span table segment.name os t).from (star_span table segment.name os t).to ∙ all_own);
+      others = λ other ne. are (star_span table segment.name os other).from (star_span table segment.name os other).to ∙ none_other other ne;
       bounded = bounded;
     }
 
-    pub tree_partly : (x : List Entry) → ((f u : ℕ) → read_in x (file_of name) f u ≤ overlaps (stretches_in place setting picks) f u) → IfSome (slice_get table.settings.trees t) (λ tree. docs_read query table os t ≤ tree.shape.leaf * product (factors_over query table os tree)) → ReadsTree query table name os t false x
+    pub tree_partly : (x : List Entry) → ((f u : ℕ) → read_in x segment.file f u ≤ overlaps (stretches_in place setting picks) f u) → IfSome (slice_get table.settings.trees t) (λ tree. docs_read query table os t ≤ tree.shape.leaf * product (factors_over query table os tree)) → ReadsTree query table segment os t false x
     tree_partly x are bounded = record {
-      raw = let le = are (raw_span table name os).from (raw_span table name os).to in let none = none_raw in omega (arith, le, none);
-      documents = subst (λ o. IfSome o (λ tree. AreBytes false (bytes_read x name (star_span table name os t)) (docs_read query table os t * doc_width tree.shape))) (sym at)
-          (let le = are (star_span table name os t).from (star_span table name os t).to in let own = all_own in omega (arith, le, own));
-      others = λ other ne. let le = are (star_span table name os other).from (star_span table name os other).to in let none = none_other other ne in omega (arith, le, none);
+      raw = let le = are (raw_span table segment.name os).from (raw_span table segment.name os).to in let none = none_raw in omega (arith, le, none);
+      documents = subst (λ o. IfSome o (λ tree. AreBytes false (bytes_read x segment (star_span table segment.name os t)) (docs_read query table os t * doc_width tree.shape))) (sym at)
+          (let le = are (star_span table segment.name os t).from (star_span table segment.name os t).to in let own = all_own in omega (arith, le, own));
+      others = λ other ne. let le = are (star_span table segment.name os other).from (star_span table segment.name os other).to in let none = none_other other ne in omega (arith, le, none);
       bounded = bounded;
     }
 
 -- ---- the image of rows
 
-module _ (law : DocsAreBounded) (query : BoundQuery) (table : Table) (valid : IsValidTable table) (files : Files) (name : List ℕ) (rows : List (List Value)) (has : HasImage table files name rows) where
+module _ (law : DocsAreBounded) (query : BoundQuery) (table : Table) (valid : IsValidTable table) (files : Files) (segment : Stored) (rows : List (List Value)) (has : HasImage table files segment rows) where
   abbrev os : List (List Value)
   os = ordered table.settings.sorted rows
 
@@ -158,65 +158,65 @@ module _ (law : DocsAreBounded) (query : BoundQuery) (table : Table) (valid : Is
   at_most = let limit = has.can.fit.at_most in let same = ordered_count table.settings.sorted rows in omega (arith, limit, same)
 
   -- nothing but the head was read
-  pub planned_head : (x : List Entry) → All (EndsBy (file_of name) (ends_at table name (ordered table.settings.sorted rows))) x → ReadsPlanned query table false name (ordered table.settings.sorted rows) x
+  pub planned_head : (x : List Entry) → All (EndsBy segment.file (ends_at table segment (ordered table.settings.sorted rows))) x → ReadsPlanned query table false segment (ordered table.settings.sorted rows) x
   planned_head x all =
-      subst (ReadsPlanned query table false name (ordered table.settings.sorted rows)) (append-nil x)
-      (planned_after query table name (ordered table.settings.sorted rows) false x [] all (planned_nothing law query table name (ordered table.settings.sorted rows) valid at_most))
+      subst (ReadsPlanned query table false segment (ordered table.settings.sorted rows)) (append-nil x)
+      (planned_after query table segment (ordered table.settings.sorted rows) false x [] all (planned_nothing law query table segment (ordered table.settings.sorted rows) valid at_most))
 
   module _ (t : ℕ) (plan_is : plan_over query table (ordered table.settings.sorted rows) ≡ StarTree t) (lt : t < length table.settings.trees) where
     bounded_by : (o : Option TreeSetting) → slice_get table.settings.trees t ≡ o → IfSome o (λ tree. docs_read query table os t ≤ tree.shape.leaf * product (factors_over query table os tree))
     bounded_by None at = tt
     bounded_by (Some tree) at = law query table os t tree valid at_most plan_is at
 
-    module _ (head : Seen) (of_table : IsHeadOf table head) (spread : head.sections ≡ map (placed (file_of name)) (extents_of table name (front_of 1 table (ordered table.settings.sorted rows)))) (of : IsOfImage table files rows head) where
-      where_it_is : (place : Place) → place_in head.sections (parts.Star t) ≡ Some place → (place.file ≡ file_of name) × (place.offset ≡ (star_span table name os t).from) × (place.offset + place.length ≡ (star_span table name os t).to)
-      where_it_is place at = star_place table t lt name (file_of name) (front_of 1 table os) place (sizes_each table name os) (subst (λ l. place_in l (parts.Star t) ≡ Some place) spread at)
+    module _ (head : Seen) (of_table : IsHeadOf table head) (spread : head.sections ≡ map (placed segment.file) (extents_of table segment.name (front_of 1 table (ordered table.settings.sorted rows)))) (of : IsOfImage table files rows head) where
+      where_it_is : (place : Place) → place_in head.sections (parts.Star t) ≡ Some place → (place.file ≡ segment.file) × (place.offset ≡ (star_span table segment.name os t).from) × (place.offset + place.length ≡ (star_span table segment.name os t).to)
+      where_it_is place at = star_place table t lt segment.name segment.file (front_of 1 table os) place (sizes_each table segment os) (subst (λ l. place_in l (parts.Star t) ≡ Some place) spread at)
 
-      pub docs_over : (a b : Option (List Entry)) → LogsDocs LogsOver query table (Some files) head t a b → Grown (ReadsPlanned query table true name (ordered table.settings.sorted rows)) a b
+      pub docs_over : (a b : Option (List Entry)) → LogsDocs LogsOver query table (Some files) head t a b → Grown (ReadsPlanned query table true segment (ordered table.settings.sorted rows)) a b
       docs_over a b d =
           let (own, begins, ends) = where_it_is d.place d.place_at in
           let (many, inside) = d.told rows of in
           let (x, made, all, are) = over_read d.place.file (stretches_in d.place d.setting d.picks) a b d.reads in
-          grown_so (ReadsPlanned query table true name os) a b x made
-          (subst (ReadsBy query table name os true x) (sym plan_is)
-          (tree_exact query table name os t lt d.setting d.setting_at d.place begins ends d.picks many inside x
+          grown_so (ReadsPlanned query table true segment os) a b x made
+          (subst (ReadsBy query table segment os true x) (sym plan_is)
+          (tree_exact query table segment os t lt d.setting d.setting_at d.place begins ends d.picks many inside x
           (subst (λ f. (u v : ℕ) → read_in x f u v ≡ overlaps (stretches_in d.place d.setting d.picks) u v) own are) (bounded_by (slice_get table.settings.trees t) refl)))
 
-      pub docs_partly : (a b : Option (List Entry)) → LogsDocs LogsPartly query table (Some files) head t a b → Grown (ReadsPlanned query table false name (ordered table.settings.sorted rows)) a b
+      pub docs_partly : (a b : Option (List Entry)) → LogsDocs LogsPartly query table (Some files) head t a b → Grown (ReadsPlanned query table false segment (ordered table.settings.sorted rows)) a b
       docs_partly a b d =
           let (own, begins, ends) = where_it_is d.place d.place_at in
           let (many, inside) = d.told rows of in
           let (x, made, all, are) = partly_read d.place.file (stretches_in d.place d.setting d.picks) a b d.reads in
-          grown_so (ReadsPlanned query table false name os) a b x made
-          (subst (ReadsBy query table name os false x) (sym plan_is)
-          (tree_partly query table name os t lt d.setting d.setting_at d.place begins ends d.picks many inside x
+          grown_so (ReadsPlanned query table false segment os) a b x made
+          (subst (ReadsBy query table segment os false x) (sym plan_is)
+          (tree_partly query table segment os t lt d.setting d.setting_at d.place begins ends d.picks many inside x
           (subst (λ f. (u v : ℕ) → read_in x f u v ≤ overlaps (stretches_in d.place d.setting d.picks) u v) own are) (bounded_by (slice_get table.settings.trees t) refl)))
 
       enough : length table.schema.fields + 1 + length table.settings.trees ≤ length head.sections
       enough = made_count table of_table.name of_table.file of_table.front (sections_of table) head.sections refl of_table.each of_table.has.sections_are
 
-      pub nodes_read : (setting : TreeSetting) → slice_get table.settings.trees t ≡ Some setting → (a b : Option (List Entry)) → LogsTree table head t a b → LogsThat (EndsBy (file_of name) (ends_at table name (ordered table.settings.sorted rows))) a b
+      pub nodes_read : (setting : TreeSetting) → slice_get table.settings.trees t ≡ Some setting → (a b : Option (List Entry)) → LogsTree table head t a b → LogsThat (EndsBy segment.file (ends_at table segment (ordered table.settings.sorted rows))) a b
       nodes_read setting at a b logs =
           let sections = image_tree table files rows head t setting valid of at in
           let long = sections.nodes_long in
           let size : 4 ≤ length (nodes_of os (slice_get table.settings.trees t)) = subst (λ o. 4 ≤ length (nodes_of os o)) (sym at) (omega (arith, long)) in
-          tree_ends table name os head spread enough t lt size valid a b logs
+          tree_ends table segment os head spread enough t lt size valid a b logs
 
-      pub answer_reads : (count : ℕ) (a b : Option (List Entry)) → LogsAnswer query table (Some files) head t count a b → Grown (ReadsPlanned query table true name (ordered table.settings.sorted rows)) a b
+      pub answer_reads : (count : ℕ) (a b : Option (List Entry)) → LogsAnswer query table (Some files) head t count a b → Grown (ReadsPlanned query table true segment (ordered table.settings.sorted rows)) a b
       answer_reads count a b l =
           let (x, made, all) = nodes_read l.documents.setting l.documents.setting_at a l.between l.nodes in
           let (y, then, own, are) = over_read l.documents.place.file (stretches_in l.documents.place l.documents.setting l.documents.picks) l.between b l.documents.reads in
-          grown_then (All (EndsBy (file_of name) (ends_at table name os))) (ReadsPlanned query table true name os) (ReadsPlanned query table true name os) a l.between b x y made then
-          (grown_that (EndsBy (file_of name) (ends_at table name os)) a l.between (x, made, all)) (docs_over l.between b l.documents)
-          (λ x y p q. planned_after query table name os true x y p q)
+          grown_then (All (EndsBy segment.file (ends_at table segment os))) (ReadsPlanned query table true segment os) (ReadsPlanned query table true segment os) a l.between b x y made then
+          (grown_that (EndsBy segment.file (ends_at table segment os)) a l.between (x, made, all)) (docs_over l.between b l.documents)
+          (λ x y p q. planned_after query table segment os true x y p q)
 
-      pub answer_reads_partly : (setting : TreeSetting) → slice_get table.settings.trees t ≡ Some setting → (a b : Option (List Entry)) → LogsAnswerPartly query table (Some files) head t a b → Grown (ReadsPlanned query table false name (ordered table.settings.sorted rows)) a b
+      pub answer_reads_partly : (setting : TreeSetting) → slice_get table.settings.trees t ≡ Some setting → (a b : Option (List Entry)) → LogsAnswerPartly query table (Some files) head t a b → Grown (ReadsPlanned query table false segment (ordered table.settings.sorted rows)) a b
       answer_reads_partly setting at a b (inl logs) =
           let (x, made, all) = nodes_read setting at a b logs in
-          grown_so (ReadsPlanned query table false name os) a b x made (planned_head x all)
+          grown_so (ReadsPlanned query table false segment os) a b x made (planned_head x all)
       answer_reads_partly setting at a b (inr l) =
           let (x, made, all) = nodes_read l.documents.setting l.documents.setting_at a l.between l.nodes in
           let (y, then, own, are) = partly_read l.documents.place.file (stretches_in l.documents.place l.documents.setting l.documents.picks) l.between b l.documents.reads in
-          grown_then (All (EndsBy (file_of name) (ends_at table name os))) (ReadsPlanned query table false name os) (ReadsPlanned query table false name os) a l.between b x y made then
-          (grown_that (EndsBy (file_of name) (ends_at table name os)) a l.between (x, made, all)) (docs_partly l.between b l.documents)
-          (λ x y p q. planned_after query table name os false x y p q)
+          grown_then (All (EndsBy segment.file (ends_at table segment os))) (ReadsPlanned query table false segment os) (ReadsPlanned query table false segment os) a l.between b x y made then
+          (grown_that (EndsBy segment.file (ends_at table segment os)) a l.between (x, made, all)) (docs_partly l.between b l.documents)
+          (λ x y p q. planned_after query table segment os false x y p q)

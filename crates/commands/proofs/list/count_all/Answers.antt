@@ -1,10 +1,13 @@
-use Rattle.std.proofs.Common.{◌≡◌, ◌∙◌, ◌<◌, ◌+◌, ◌++◌, ◌∷◌, [], List, ℕ, IfSome, get_or, length, length-append, arith, subst, sym, ap}
+use Rattle.std.proofs.Common.{◌≡◌, ◌∙◌, ◌<◌, ◌+◌, ◌++◌, ◌∷◌, [], List, ℕ, IfSome, get_or, length, map, length-append, arith, subst, sym, ap}
 use Rattle.std.specs.List.{AllZip, Contains}
 use Rattle.outside.specs.Seen.{Seen, seen}
 use Rattle.command_model.specs.Profile.{StoreFiles}
 use Rattle.command_model.specs.Touched.{IsStoreFile}
 use Rattle.command_model.specs.Stored.{HasRows, SegmentsRefuse}
+use Rattle.segment_head.specs.Stored.{live}
+use Rattle.segment_head.specs.declared.stored.Stored.{Stored}
 use Rattle.segment_reads.specs.Logs.{IsHeadRead}
+use Rattle.segment_reads.proofs.NameLemmas.{live_at, live_count}
 use Rattle.segment_reads.proofs.LogLemmas.{entries_none, heads_more}
 use Rattle.outside.proofs.SeenLemmas.{reads_none}
 use Rattle.command_model.proofs.StoredLemmas.{CountsOn, any_default, counts_all, counts_more, counts_none, err_after, handed, logs_then, no_memory, reads_then}
@@ -19,7 +22,7 @@ returns-in_err-counts-clause-looks g c =
 pub returns-in_err-counts-clause-heads : goal.returns-in_err-counts-clause-heads
 returns-in_err-counts-clause-heads g c =
     let a : Seen = seen g.D.Shelf c.args.depot.now in
-    entries_none (λ entry. (name : List ℕ) × Contains c.args.names.now name × IsHeadRead c.args.table.now a.held name entry) a.log
+    entries_none (λ entry. (segment : Stored) × Contains (map live c.args.names.now) segment × IsHeadRead c.args.table.now a.held segment entry) a.log
 
 pub names-init : goal.names-init
 names-init g c =
@@ -28,7 +31,7 @@ names-init g c =
     record {
       reads = reads_none a;
       log = entries_none (λ entry. IsStoreFile entry.file) a.log;
-      heads = entries_none (λ entry. (name : List ℕ) × Contains c.args.names.now name × IsHeadRead c.args.table.now a.held name entry) a.log;
+      heads = entries_none (λ entry. (segment : Stored) × Contains (map live c.args.names.now) segment × IsHeadRead c.args.table.now a.held segment entry) a.log;
       each = ap length none;
       so_far = subst (λ counts. IfSome a.held (CountsOn c.args.table.now c.args.names.now 0 counts)) (sym none) (counts_none a.held c.args.table.now c.args.names.now);
     }
@@ -56,7 +59,7 @@ returns-in_err-rows-clause-heads g c =
     let d : Seen = seen g.D.Shelf c.count_rows.new.depot in
     let lt : c.names.at < length c.args.names.now = omega arith in
     let is : c.as_str.result.now ≡ get_or c.args.names.now c.names.at [] = c.as_str.ensures ∙ c.index-names-at.is ∙ any_default c.args.names.now c.names.at c.index-names-at.result [] lt in
-    heads_more c.args.table.now c.args.names.now c.names.at c.as_str.result.now a.held b.held a.log b.log d.log lt is c.names.invariant.reads.held c.names.invariant.heads c.in_err-rows.ensures.heads
+    heads_more c.args.table.now (map live c.args.names.now) c.names.at (live c.as_str.result.now) a.held b.held a.log b.log d.log (omega (arith, lt, live_count c.args.names.now)) (ap live is ∙ sym (live_at c.args.names.now c.names.at)) c.names.invariant.reads.held c.names.invariant.heads c.in_err-rows.ensures.heads
 
 pub returns-in_err-push_count-clause-heads : goal.returns-in_err-push_count-clause-heads
 returns-in_err-push_count-clause-heads g c =
@@ -65,7 +68,7 @@ returns-in_err-push_count-clause-heads g c =
     let d : Seen = seen g.D.Shelf c.count_rows.new.depot in
     let lt : c.names.at < length c.args.names.now = omega arith in
     let is : c.as_str.result.now ≡ get_or c.args.names.now c.names.at [] = c.as_str.ensures ∙ c.index-names-at.is ∙ any_default c.args.names.now c.names.at c.index-names-at.result [] lt in
-    heads_more c.args.table.now c.args.names.now c.names.at c.as_str.result.now a.held b.held a.log b.log d.log lt is c.names.invariant.reads.held c.names.invariant.heads c.in_ok-rows.ensures.heads
+    heads_more c.args.table.now (map live c.args.names.now) c.names.at (live c.as_str.result.now) a.held b.held a.log b.log d.log (omega (arith, lt, live_count c.args.names.now)) (ap live is ∙ sym (live_at c.args.names.now c.names.at)) c.names.invariant.reads.held c.names.invariant.heads c.in_ok-rows.ensures.heads
 
 pub names-preserved : goal.names-preserved
 names-preserved g c =
@@ -80,7 +83,7 @@ names-preserved g c =
     record {
       reads = reads_then a b d c.names.invariant.reads c.in_ok-rows.ensures.looks.reads;
       log = logs_then a.log b.log d.log c.names.invariant.log c.in_ok-rows.ensures.looks.log;
-      heads = heads_more c.args.table.now c.args.names.now c.names.at c.as_str.result.now a.held b.held a.log b.log d.log lt is c.names.invariant.reads.held c.names.invariant.heads c.in_ok-rows.ensures.heads;
+      heads = heads_more c.args.table.now (map live c.args.names.now) c.names.at (live c.as_str.result.now) a.held b.held a.log b.log d.log (omega (arith, lt, live_count c.args.names.now)) (ap live is ∙ sym (live_at c.args.names.now c.names.at)) c.names.invariant.reads.held c.names.invariant.heads c.in_ok-rows.ensures.heads;
       each = omega (arith, more, c.names.invariant.each);
       so_far = subst (λ counts. IfSome a.held (CountsOn c.args.table.now c.args.names.now (c.names.at + 1) counts)) (sym pushed)
           (counts_more a.held b.held c.args.table.now c.args.names.now c.names.at c.in_ok-rows.rows old c.names.invariant.reads.held lt

@@ -1,6 +1,8 @@
-use Rattle.std.proofs.Common.{◌≡◌, ◌∙◌}
+use Rattle.std.proofs.Common.{◌≡◌, ◌∙◌, subst}
 use Rattle.outside.specs.Seen.{seen}
 use Rattle.segment_file.specs.Names.{file_of}
+use Rattle.segment_head.specs.Heads.{LogsOpened}
+use Rattle.segment_head.specs.Stored.{live}
 use Rattle.segment_reads.specs.Logs.{IsHeadRead}
 use Rattle.segment_reads.proofs.LogLemmas.{entries_none, opened_log}
 use Rattle.command_model.proofs.StoredLemmas.{counted, uncounted}
@@ -15,7 +17,8 @@ returns-in-Ok-clause-looks g c =
 
 pub returns-in-Ok-clause-heads : goal.returns-in-Ok-clause-heads
 returns-in-Ok-clause-heads g c =
-    opened_log c.args.table.now c.args.name.now c.as_str.result.now (g.D.Shelf.held c.args.depot.now) (g.D.Shelf.log c.args.depot.now) (g.D.Shelf.log c.open_head.new.shelf) (c.as_str.ensures.value ∙ c.in_ok-file.ensures) c.in-Ok.ensures.log
+    opened_log c.args.table.now (live c.args.name.now) (g.D.Shelf.held c.args.depot.now) (g.D.Shelf.log c.args.depot.now) (g.D.Shelf.log c.open_head.new.shelf)
+    (subst (λ file. LogsOpened c.args.table.now c.args.name.now file (g.D.Shelf.held c.args.depot.now) (g.D.Shelf.log c.args.depot.now) (g.D.Shelf.log c.open_head.new.shelf)) (c.as_str.ensures.value ∙ c.in_ok-file.ensures) c.in-Ok.ensures.log)
 
 pub returns-clause-looks : goal.returns-clause-looks
 returns-clause-looks g c =
@@ -26,7 +29,8 @@ returns-clause-looks g c =
 
 pub returns-clause-heads : goal.returns-clause-heads
 returns-clause-heads g c =
-    opened_log c.args.table.now c.args.name.now c.as_str.result.now (g.D.Shelf.held c.args.depot.now) (g.D.Shelf.log c.args.depot.now) (g.D.Shelf.log c.open_head.new.shelf) (c.as_str.ensures.value ∙ c.in_ok-file.ensures) c.in-Err.ensures.log
+    opened_log c.args.table.now (live c.args.name.now) (g.D.Shelf.held c.args.depot.now) (g.D.Shelf.log c.args.depot.now) (g.D.Shelf.log c.open_head.new.shelf)
+    (subst (λ file. LogsOpened c.args.table.now c.args.name.now file (g.D.Shelf.held c.args.depot.now) (g.D.Shelf.log c.args.depot.now) (g.D.Shelf.log c.open_head.new.shelf)) (c.as_str.ensures.value ∙ c.in_ok-file.ensures) c.in-Err.ensures.log)
 
 pub returns-in_err-file-clause-heads : goal.returns-in_err-file-clause-heads
-returns-in_err-file-clause-heads g c = entries_none (IsHeadRead c.args.table.now (g.D.Shelf.held c.args.depot.now) c.args.name.now) (g.D.Shelf.log c.args.depot.now)
+returns-in_err-file-clause-heads g c = entries_none (IsHeadRead c.args.table.now (g.D.Shelf.held c.args.depot.now) (live c.args.name.now)) (g.D.Shelf.log c.args.depot.now)

@@ -1,5 +1,6 @@
-use Rattle.std.proofs.Common.{Err, Ok, false, inl, inr, refl, subst, sym, true}
+use Rattle.std.proofs.Common.{Err, Ok, false, inl, inr, map, refl, subst, sym, true}
 use Rattle.outside.specs.Seen.{Seen, seen}
+use Rattle.segment_head.specs.Stored.{live}
 use Rattle.query_executor.proofs.ReplyLemmas.{text_real}
 use Rattle.command_words.specs.declared.about.About.TheVariants.{Plans, Rows, RowsAndPlans}
 use Rattle.command_model.specs.Gives.{AnswersQuery}
@@ -40,7 +41,7 @@ returns-in-Ok-explain_query g c =
     let e = c.in-Ok-explain_query.ensures in
     let has = heads_read c.args.table.now c.args.names.now a.held a.log b.log c.requires.there e.looks.log in
     subst (λ about. AnswersQuery about c.args.sql.now a b (Ok c.in-Ok-explain_query.text)) (sym c.in-Plans.is)
-    (query_replied Plans c.args.table.now c.args.names.now c.args.sql.now a b c.requires.of_table.named c.requires.there (heads_of c.args.table.now a.held c.args.names.now a.log b.log e.looks.log)
+    (query_replied Plans c.args.table.now c.args.names.now c.args.sql.now a b c.requires.of_table.named c.requires.there (heads_of c.args.table.now a.held (map live c.args.names.now) a.log b.log e.looks.log)
     (stored_of ReadsHeads a.held a.log b.log has) c.in-Ok-explain_query.text e.looks.only_reads (λ f. cc) e.reply has)
 
 pub returns-in-Err-explain_query : goal.returns-in-Err-explain_query
@@ -51,7 +52,7 @@ returns-in-Err-explain_query g c =
     let e = c.in-Err-explain_query.ensures in
     let has = heads_read c.args.table.now c.args.names.now a.held a.log b.log c.requires.there e.looks.log in
     subst (λ about. AnswersQuery about c.args.sql.now a b (Err c.stop_of-in-Err-explain_query.result)) (sym c.in-Plans.is)
-    (query_stopped Plans table c.args.names.now c.args.sql.now a b c.requires.of_table.named c.requires.there (heads_of table a.held c.args.names.now a.log b.log e.looks.log) (stored_of ReadsHeads a.held a.log b.log has) c.in-Err-explain_query.fault
+    (query_stopped Plans table c.args.names.now c.args.sql.now a b c.requires.of_table.named c.requires.there (heads_of table a.held (map live c.args.names.now) a.log b.log e.looks.log) (stored_of ReadsHeads a.held a.log b.log has) c.in-Err-explain_query.fault
     c.stop_of-in-Err-explain_query.result c.stop_of-in-Err-explain_query.ensures e.looks.only_reads
     (λ wrong is real. plans_wrong table c.args.names.now c.args.sql.now a.held wrong (e.of_text wrong is real).2)
     (λ wrong is of. (e.of_text wrong is (text_real wrong of)).2) e.looks.bad (λ wrong is real. inl (e.of_text wrong is real).0))

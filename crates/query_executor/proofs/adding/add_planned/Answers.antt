@@ -9,7 +9,6 @@ use Rattle.table_schema.specs.declared.table.Table.{Table}
 use Rattle.table_schema.specs.ValidQuery.{IsValidQuery}
 use Rattle.table_schema.specs.ValidTable.{IsValidTable}
 use Rattle.segment_head.specs.Heads.{Seen}
-use Rattle.segment_file.specs.Names.{file_of}
 use Rattle.segment_file.specs.Ordered.{ordered}
 use Rattle.segment_plan.specs.declared.plans.ScanPlan.{ScanPlan}
 use Rattle.segment_plan.specs.Laws.{HeadTells, PlanIsOver, TellsOf}
@@ -32,17 +31,18 @@ use Rattle.star_answer.proofs.TreeLogs.{answer_in_file, answer_partly}
 use Rattle.segment_scan.proofs.ScanLogs.{scan_in_file, scan_partly}
 use Rattle.query_executor.proofs.SegmentLemmas.{adds_answered, adds_none, adds_scanned, bad_answered, bad_scanned, overfull_answered, overfull_scanned, room}
 use Rattle.query_executor.proofs.adding.add_planned.Goals as goal
+use Rattle.segment_head.specs.declared.stored.Stored.{Stored}
 
-scan_plan : (query : BoundQuery) (table : Table) → HeadTells → PlanIsOver → IsValidTable table → IsValidQuery table query → (files : Files) (name : List ℕ) (head : Seen) (plan : ScanPlan) → Scan plan ≡ plan_of query table head → AreLoaded query.conjuncts head → IsHeadIn table (Some files) name head → (rows : List (List Value)) → HasImage table files name rows
+scan_plan : (query : BoundQuery) (table : Table) → HeadTells → PlanIsOver → IsValidTable table → IsValidQuery table query → (files : Files) (segment : Stored) (head : Seen) (plan : ScanPlan) → Scan plan ≡ plan_of query table head → AreLoaded query.conjuncts head → IsHeadIn table (Some files) segment head → (rows : List (List Value)) → HasImage table files segment rows
     → TellsOf table (ordered table.settings.sorted rows) head × (Scan plan ≡ plan_over query table (ordered table.settings.sorted rows))
-scan_plan query table tells law valid query_valid files name head plan is loaded in_file rows has =
+scan_plan query table tells law valid query_valid files segment head plan is loaded in_file rows has =
     let i = in_file rows has in
     let told = tells table i.name i.file rows i.whole head valid i.named i.can i.is_head i.part in
     (told, is ∙ law query table (ordered table.settings.sorted rows) head query_valid told (inr loaded))
 
-tree_plan : (query : BoundQuery) (table : Table) → HeadTells → PlanIsOver → IsValidTable table → IsValidQuery table query → (files : Files) (name : List ℕ) (head : Seen) (t : ℕ) → StarTree t ≡ plan_of query table head → AreLoaded query.conjuncts head → IsHeadIn table (Some files) name head → (rows : List (List Value)) → HasImage table files name rows
+tree_plan : (query : BoundQuery) (table : Table) → HeadTells → PlanIsOver → IsValidTable table → IsValidQuery table query → (files : Files) (segment : Stored) (head : Seen) (t : ℕ) → StarTree t ≡ plan_of query table head → AreLoaded query.conjuncts head → IsHeadIn table (Some files) segment head → (rows : List (List Value)) → HasImage table files segment rows
     → StarTree t ≡ plan_over query table (ordered table.settings.sorted rows)
-tree_plan query table tells law valid query_valid files name head t is loaded in_file rows has =
+tree_plan query table tells law valid query_valid files segment head t is loaded in_file rows has =
     let i = in_file rows has in
     is ∙ law query table (ordered table.settings.sorted rows) head query_valid (tells table i.name i.file rows i.whole head valid i.named i.can i.is_head i.part) (inr loaded)
 
@@ -92,15 +92,15 @@ returns-in_err-plan g c =
     let a : outside.Seen = seen g.S.Shelf c.args.shelf.now in
     let is = gives_fault _ r engine.NoMemory c.from_residual.ensures.1 in
     record {
-      adds = λ name in_file spread inside. record {
+      adds = λ segment in_file spread inside. record {
         added = fault_ok _ r engine.NoMemory _ is;
         full = λ e. absurd (fault_not _ r engine.NoMemory engine.TooManyGroups memory_not_full is e);
         bad = λ part e. absurd (fault_not _ r engine.NoMemory (engine.NotASegment part) (memory_not_bad part) is e);
         only_reads = reads_unread _ a (λ e. fault_not _ r engine.NoMemory engine.ReadFault memory_not_read is e);
-        log = logs_none (λ other. other ≡ file_of name) a.log;
+        log = logs_none (λ other. other ≡ segment.file) a.log;
         reads = fault_ok _ r engine.NoMemory _ is;
-        reads_of_fault = on-err r (LogsOne (ReadsPlanned query table false) table a.held name a.log a.log)
-            (given_up query table name c.docs_bound_law.ensures.bound c.requires.loaded.asked.valid a.held a.log a.log (none_one query table name a.held a.log));
+        reads_of_fault = on-err r (LogsOne (ReadsPlanned query table false) table a.held segment a.log a.log)
+            (given_up query table segment c.docs_bound_law.ensures.bound c.requires.loaded.asked.valid a.held a.log a.log (none_one query table segment a.held a.log));
       };
       done = fault_if _ r engine.NoMemory _ is;
     }
@@ -118,19 +118,19 @@ returns-in-Ok g c =
     let named = c.requires.loaded.named (scan_unpicked query table head plan planned) in
     let chosen = scan_planned query table head plan planned in
     record {
-      adds = λ name is spread inside. record {
-        added = adds_scanned query table name head a.held c.args.groups.now c.scan_segment.new.groups c.requires.loaded.asked.of_table c.in-Ok.ensures.ok is;
+      adds = λ segment is spread inside. record {
+        added = adds_scanned query table segment head a.held c.args.groups.now c.scan_segment.new.groups c.requires.loaded.asked.of_table c.in-Ok.ensures.ok is;
         full = λ e. absurd (no_fault _ _ engine.TooManyGroups e);
         bad = λ part e. absurd (no_fault _ _ (engine.NotASegment part) e);
         only_reads = reads_done _ _ docs _ engine.ReadFault a b c.in-Ok.ensures.reads.only_reads;
-        log = scan_in_file query table head (file_of name) inside a.held c.requires.loaded.asked.of_table named _ a.log b.log c.in-Ok.ensures.reads.log;
-        reads = scan_one query table name c.image_law.ensures c.index_law.ensures c.requires.loaded.asked.valid head c.requires.loaded.asked.of_table named plan chosen
-            (λ files rows has in_file. scan_plan query table c.head_tells_law.ensures c.plan_over_law.ensures c.requires.loaded.asked.valid c.requires.loaded.asked.query files name head plan planned c.requires.loaded.filtered in_file rows has)
+        log = scan_in_file query table head segment.file inside a.held c.requires.loaded.asked.of_table named _ a.log b.log c.in-Ok.ensures.reads.log;
+        reads = scan_one query table segment c.image_law.ensures c.index_law.ensures c.requires.loaded.asked.valid head c.requires.loaded.asked.of_table named plan chosen
+            (λ files rows has in_file. scan_plan query table c.head_tells_law.ensures c.plan_over_law.ensures c.requires.loaded.asked.valid c.requires.loaded.asked.query files segment head plan planned c.requires.loaded.filtered in_file rows has)
             a.held docs a.log b.log is spread c.in-Ok.ensures.reads.log;
         reads_of_fault = tt;
       };
-      done = λ name is.
-          done_so query table c.head_tells_law.ensures c.plan_over_law.ensures c.requires.loaded.asked.valid c.requires.loaded.asked.query a.held name head (Scan plan) docs planned (inr c.requires.loaded.filtered)
+      done = λ segment is.
+          done_so query table c.head_tells_law.ensures c.plan_over_law.ensures c.requires.loaded.asked.valid c.requires.loaded.asked.query a.held segment head (Scan plan) docs planned (inr c.requires.loaded.filtered)
           (scan_looked query table a.held head plan docs chosen c.in-Ok.ensures.count) is;
     }
 
@@ -147,15 +147,15 @@ returns-in-Err g c =
     let named = c.requires.loaded.named (scan_unpicked query table head plan planned) in
     let chosen = scan_planned query table head plan planned in
     record {
-      adds = λ name is spread inside. record {
+      adds = λ segment is spread inside. record {
         added = tt;
-        full = λ e. overfull_scanned query table name head a.held c.args.groups.now (c.in-Err.ensures.full (ap Err (own_fault _ fault engine.TooManyGroups e))) is;
-        bad = λ part e. bad_scanned query table name head a.held part (c.in-Err.ensures.bad part (ap Err (own_fault _ fault (engine.NotASegment part) e))) is;
+        full = λ e. overfull_scanned query table segment head a.held c.args.groups.now (c.in-Err.ensures.full (ap Err (own_fault _ fault engine.TooManyGroups e))) is;
+        bad = λ part e. bad_scanned query table segment head a.held part (c.in-Err.ensures.bad part (ap Err (own_fault _ fault (engine.NotASegment part) e))) is;
         only_reads = reads_failed _ _ fault engine.ReadFault a b c.in-Err.ensures.reads.only_reads;
-        log = scan_partly query table head (file_of name) inside a.held c.requires.loaded.asked.of_table named a.log b.log c.in-Err.ensures.reads.log_of_fault;
+        log = scan_partly query table head segment.file inside a.held c.requires.loaded.asked.of_table named a.log b.log c.in-Err.ensures.reads.log_of_fault;
         reads = tt;
-        reads_of_fault = scan_given_up query table name c.image_law.ensures c.index_law.ensures c.requires.loaded.asked.valid head c.requires.loaded.asked.of_table named plan chosen
-            (λ files rows has in_file. scan_plan query table c.head_tells_law.ensures c.plan_over_law.ensures c.requires.loaded.asked.valid c.requires.loaded.asked.query files name head plan planned c.requires.loaded.filtered in_file rows has)
+        reads_of_fault = scan_given_up query table segment c.image_law.ensures c.index_law.ensures c.requires.loaded.asked.valid head c.requires.loaded.asked.of_table named plan chosen
+            (λ files rows has in_file. scan_plan query table c.head_tells_law.ensures c.plan_over_law.ensures c.requires.loaded.asked.valid c.requires.loaded.asked.query files segment head plan planned c.requires.loaded.filtered in_file rows has)
             a.held a.log b.log is spread c.in-Err.ensures.reads.log_of_fault;
       };
       done = tt;
@@ -168,16 +168,16 @@ returns-in-Pruned g c =
     let head = c.args.head.now in
     let a : outside.Seen = seen g.S.Shelf c.args.shelf.now in
     let planned = planned_as query table head c.in_ok-plan.field-0 Pruned c.in-Pruned.is c.in_ok-plan.ensures in
-    let all : (name : List ℕ) → IsHeadIn table a.held name head → IsDoneIn query table a.held name c.nothing.result.plan c.nothing.result.docs =
-    λ name is. none_done query table c.head_tells_law.ensures c.plan_over_law.ensures c.requires.loaded.asked.valid c.requires.loaded.asked.query a.held name head c.nothing.result.plan Pruned c.nothing.result.docs c.nothing.ensures.plan planned (inr c.requires.loaded.filtered) (λ rows. refl) c.nothing.ensures.none is in
+    let all : (segment : Stored) → IsHeadIn table a.held segment head → IsDoneIn query table a.held segment c.nothing.result.plan c.nothing.result.docs =
+    λ segment is. none_done query table c.head_tells_law.ensures c.plan_over_law.ensures c.requires.loaded.asked.valid c.requires.loaded.asked.query a.held segment head c.nothing.result.plan Pruned c.nothing.result.docs c.nothing.ensures.plan planned (inr c.requires.loaded.filtered) (λ rows. refl) c.nothing.ensures.none is in
     record {
-      adds = λ name is spread inside. record {
-        added = adds_none query table name head c.head_tells_law.ensures c.requires.loaded.asked.valid a.held c.args.groups.now c.requires.room.of_query (λ rows tells. c.pruned_law.ensures query table rows head tells (is_pruned_so query table head planned)) is;
+      adds = λ segment is spread inside. record {
+        added = adds_none query table segment head c.head_tells_law.ensures c.requires.loaded.asked.valid a.held c.args.groups.now c.requires.room.of_query (λ rows tells. c.pruned_law.ensures query table rows head tells (is_pruned_so query table head planned)) is;
         full = λ e. absurd (no_fault _ _ engine.TooManyGroups e);
         bad = λ part e. absurd (no_fault _ _ (engine.NotASegment part) e);
         only_reads = reads_unread _ a (λ e. no_fault _ _ engine.ReadFault e);
-        log = logs_none (λ other. other ≡ file_of name) a.log;
-        reads = quiet_one query table name a.held c.nothing.result.plan c.nothing.result.docs a.log a.log (all name is) (inl c.nothing.ensures.plan) (none_one query table name a.held a.log);
+        log = logs_none (λ other. other ≡ segment.file) a.log;
+        reads = quiet_one query table segment a.held c.nothing.result.plan c.nothing.result.docs a.log a.log (all segment is) (inl c.nothing.ensures.plan) (none_one query table segment a.held a.log);
         reads_of_fault = tt;
       };
       done = all;
@@ -190,16 +190,16 @@ returns-in-Empty g c =
     let head = c.args.head.now in
     let a : outside.Seen = seen g.S.Shelf c.args.shelf.now in
     let planned = planned_as query table head c.in_ok-plan.field-0 Empty c.in-Empty.is c.in_ok-plan.ensures in
-    let all : (name : List ℕ) → IsHeadIn table a.held name head → IsDoneIn query table a.held name c.nothing-in-Empty.result.plan c.nothing-in-Empty.result.docs =
-    λ name is. none_done query table c.head_tells_law.ensures c.plan_over_law.ensures c.requires.loaded.asked.valid c.requires.loaded.asked.query a.held name head c.nothing-in-Empty.result.plan Empty c.nothing-in-Empty.result.docs c.nothing-in-Empty.ensures.plan planned (inr c.requires.loaded.filtered) (λ rows. refl) c.nothing-in-Empty.ensures.none is in
+    let all : (segment : Stored) → IsHeadIn table a.held segment head → IsDoneIn query table a.held segment c.nothing-in-Empty.result.plan c.nothing-in-Empty.result.docs =
+    λ segment is. none_done query table c.head_tells_law.ensures c.plan_over_law.ensures c.requires.loaded.asked.valid c.requires.loaded.asked.query a.held segment head c.nothing-in-Empty.result.plan Empty c.nothing-in-Empty.result.docs c.nothing-in-Empty.ensures.plan planned (inr c.requires.loaded.filtered) (λ rows. refl) c.nothing-in-Empty.ensures.none is in
     record {
-      adds = λ name is spread inside. record {
-        added = adds_none query table name head c.head_tells_law.ensures c.requires.loaded.asked.valid a.held c.args.groups.now c.requires.room.of_query (λ rows tells. c.empty_law.ensures query.conjuncts table rows head tells c.requires.loaded.filtered (is_empty_so query table head planned)) is;
+      adds = λ segment is spread inside. record {
+        added = adds_none query table segment head c.head_tells_law.ensures c.requires.loaded.asked.valid a.held c.args.groups.now c.requires.room.of_query (λ rows tells. c.empty_law.ensures query.conjuncts table rows head tells c.requires.loaded.filtered (is_empty_so query table head planned)) is;
         full = λ e. absurd (no_fault _ _ engine.TooManyGroups e);
         bad = λ part e. absurd (no_fault _ _ (engine.NotASegment part) e);
         only_reads = reads_unread _ a (λ e. no_fault _ _ engine.ReadFault e);
-        log = logs_none (λ other. other ≡ file_of name) a.log;
-        reads = quiet_one query table name a.held c.nothing-in-Empty.result.plan c.nothing-in-Empty.result.docs a.log a.log (all name is) (inr c.nothing-in-Empty.ensures.plan) (none_one query table name a.held a.log);
+        log = logs_none (λ other. other ≡ segment.file) a.log;
+        reads = quiet_one query table segment a.held c.nothing-in-Empty.result.plan c.nothing-in-Empty.result.docs a.log a.log (all segment is) (inr c.nothing-in-Empty.ensures.plan) (none_one query table segment a.held a.log);
         reads_of_fault = tt;
       };
       done = all;
@@ -217,18 +217,18 @@ returns-in-Ok-answer_segment g c =
     let within = picked_within query table.settings.trees tree (tree_planned query table head tree planned) in
     let docs = c.in-Ok-answer_segment.read in
     record {
-      adds = λ name is spread inside. record {
-        added = adds_answered query table name head a.held c.args.groups.now c.answer_segment.new.groups c.requires.loaded.asked.of_table c.in-Ok-answer_segment.ensures.ok is;
+      adds = λ segment is spread inside. record {
+        added = adds_answered query table segment head a.held c.args.groups.now c.answer_segment.new.groups c.requires.loaded.asked.of_table c.in-Ok-answer_segment.ensures.ok is;
         full = λ e. absurd (no_fault _ _ engine.TooManyGroups e);
         bad = λ part e. absurd (no_fault _ _ (engine.NotASegment part) e);
         only_reads = reads_as a b c.in-Ok-answer_segment.ensures.only_reads (λ e. absurd (no_fault _ _ engine.ReadFault e)) (λ e. absurd (no_fault _ docs engine.ReadFault e));
-        log = answer_in_file table c.requires.loaded.asked.valid head c.requires.loaded.asked.of_table (file_of name) inside query a.held tree docs a.log b.log within c.in-Ok-answer_segment.ensures.log;
-        reads = tree_one query table name c.docs_bound_law.ensures.bound c.requires.loaded.asked.valid head c.requires.loaded.asked.of_table tree within a.held docs a.log b.log
-            (λ files rows has in_file. tree_plan query table c.head_tells_law.ensures c.plan_over_law.ensures c.requires.loaded.asked.valid c.requires.loaded.asked.query files name head tree planned c.requires.loaded.filtered in_file rows has) is spread c.in-Ok-answer_segment.ensures.log;
+        log = answer_in_file table c.requires.loaded.asked.valid head c.requires.loaded.asked.of_table segment.file inside query a.held tree docs a.log b.log within c.in-Ok-answer_segment.ensures.log;
+        reads = tree_one query table segment c.docs_bound_law.ensures.bound c.requires.loaded.asked.valid head c.requires.loaded.asked.of_table tree within a.held docs a.log b.log
+            (λ files rows has in_file. tree_plan query table c.head_tells_law.ensures c.plan_over_law.ensures c.requires.loaded.asked.valid c.requires.loaded.asked.query files segment head tree planned c.requires.loaded.filtered in_file rows has) is spread c.in-Ok-answer_segment.ensures.log;
         reads_of_fault = tt;
       };
-      done = λ name is.
-          done_so query table c.head_tells_law.ensures c.plan_over_law.ensures c.requires.loaded.asked.valid c.requires.loaded.asked.query a.held name head (StarTree tree) docs planned (inr c.requires.loaded.filtered)
+      done = λ segment is.
+          done_so query table c.head_tells_law.ensures c.plan_over_law.ensures c.requires.loaded.asked.valid c.requires.loaded.asked.query a.held segment head (StarTree tree) docs planned (inr c.requires.loaded.filtered)
           (tree_looked query table a.held head tree docs c.in-Ok-answer_segment.ensures.count.told) is;
     }
 
@@ -244,19 +244,19 @@ returns-in-Err-answer_segment g c =
     let within = picked_within query table.settings.trees tree (tree_planned query table head tree planned) in
     let fault = c.in-Err-answer_segment.fault in
     record {
-      adds = λ name is spread inside. record {
+      adds = λ segment is spread inside. record {
         added = tt;
         full = λ e.
-            overfull_answered query table name head a.held c.args.groups.now
+            overfull_answered query table segment head a.held c.args.groups.now
             (c.in-Err-answer_segment.ensures.full (ap Err (own_fault _ fault engine.TooManyGroups e))) is;
         bad = λ part e.
-            bad_answered query table name head a.held
+            bad_answered query table segment head a.held
             (c.in-Err-answer_segment.ensures.bad part (ap Err (own_fault _ fault (engine.NotASegment part) e))).1 is;
         only_reads = reads_failed _ _ fault engine.ReadFault a b c.in-Err-answer_segment.ensures.only_reads;
-        log = answer_partly table c.requires.loaded.asked.valid head c.requires.loaded.asked.of_table (file_of name) inside query a.held tree a.log b.log within c.in-Err-answer_segment.ensures.log_of_fault;
+        log = answer_partly table c.requires.loaded.asked.valid head c.requires.loaded.asked.of_table segment.file inside query a.held tree a.log b.log within c.in-Err-answer_segment.ensures.log_of_fault;
         reads = tt;
-        reads_of_fault = tree_given_up query table name c.docs_bound_law.ensures.bound c.requires.loaded.asked.valid head c.requires.loaded.asked.of_table tree within a.held a.log b.log
-            (λ files rows has in_file. tree_plan query table c.head_tells_law.ensures c.plan_over_law.ensures c.requires.loaded.asked.valid c.requires.loaded.asked.query files name head tree planned c.requires.loaded.filtered in_file rows has) is spread c.in-Err-answer_segment.ensures.log_of_fault;
+        reads_of_fault = tree_given_up query table segment c.docs_bound_law.ensures.bound c.requires.loaded.asked.valid head c.requires.loaded.asked.of_table tree within a.held a.log b.log
+            (λ files rows has in_file. tree_plan query table c.head_tells_law.ensures c.plan_over_law.ensures c.requires.loaded.asked.valid c.requires.loaded.asked.query files segment head tree planned c.requires.loaded.filtered in_file rows has) is spread c.in-Err-answer_segment.ensures.log_of_fault;
       };
       done = tt;
     }

@@ -8,6 +8,7 @@ use Rattle.query_executor.proofs.EndLemmas.{fault_if, fault_ok, gives_fault, mem
 use Rattle.query_executor.proofs.PassLemmas.{pass_done, pass_failed, pass_lacking}
 use Rattle.query_executor.proofs.ReplyLemmas.{all_answered, groups_no_text, too_many_refused}
 use Rattle.query_executor.proofs.executor.reply_to_bound.Goals as goal
+use Rattle.segment_head.specs.declared.stored.Stored.{Stored}
 
 pub answer-requires : goal.answer-requires
 answer-requires g c = record {
@@ -20,7 +21,7 @@ pub returns-in-Err : goal.returns-in-Err
 returns-in-Err g c =
     let query = c.args.query.now in
     let table = c.args.table.now in
-    let names : List (List ℕ) = c.args.names.now in
+    let stored : List Stored = c.args.stored.now in
     let a : Seen = seen g.S.Shelf c.args.shelf.now in
     let b : Seen = seen g.S.Shelf c.pass_over.new.shelf in
     let own = c.in-Err.fault in
@@ -28,16 +29,16 @@ returns-in-Err g c =
       reply = tt;
       refused = λ fault e real.
           let (most, over) = c.in-Err.ensures.refused fault (ap Err (own_fault _ own (Sql fault) e)) real in
-          (groups_no_text fault 100000 most, subst (λ f. IfSome a.held (λ files. IsBoundReply table files names query (Err f))) (sym most) (too_many_refused query table names a.held over));
+          (groups_no_text fault 100000 most, subst (λ f. IfSome a.held (λ files. IsBoundReply table files stored query (Err f))) (sym most) (too_many_refused query table stored a.held over));
       opens = tt;
-      passes = pass_failed query table names _ _ own a b c.in-Err.ensures.passes;
+      passes = pass_failed query table stored _ _ own a b c.in-Err.ensures.passes;
     }
 
 pub returns-in_err-answer : goal.returns-in_err-answer
 returns-in_err-answer g c =
     let query = c.args.query.now in
     let table = c.args.table.now in
-    let names : List (List ℕ) = c.args.names.now in
+    let stored : List Stored = c.args.stored.now in
     let a : Seen = seen g.S.Shelf c.args.shelf.now in
     let b : Seen = seen g.S.Shelf c.pass_over.new.shelf in
     let r = c.from_residual.result in
@@ -45,20 +46,20 @@ returns-in_err-answer g c =
     record {
       reply = fault_if _ r (Sql NoMemory) _ is;
       refused = λ fault e real. absurd (memory_refused _ r fault is e real);
-      opens = fault_ok _ r (Sql NoMemory) (HaveOpenings table a.held names) is;
-      passes = pass_lacking query table names _ _ c.in-Ok.pass r a b is c.in-Ok.ensures.passes;
+      opens = fault_ok _ r (Sql NoMemory) (HaveOpenings table a.held stored) is;
+      passes = pass_lacking query table stored _ _ c.in-Ok.pass r a b is c.in-Ok.ensures.passes;
     }
 
 pub returns : goal.returns
 returns g c =
     let query = c.args.query.now in
     let table = c.args.table.now in
-    let names : List (List ℕ) = c.args.names.now in
+    let stored : List Stored = c.args.stored.now in
     let a : Seen = seen g.S.Shelf c.args.shelf.now in
     let b : Seen = seen g.S.Shelf c.pass_over.new.shelf in
     record {
-      reply = all_answered query table names a.held c.in-Ok.pass.groups _ c.in-Ok.ensures.made.groups c.in_ok-answer.ensures;
+      reply = all_answered query table stored a.held c.in-Ok.pass.groups _ c.in-Ok.ensures.made.groups c.in_ok-answer.ensures;
       refused = λ fault e real. absurd (no_fault _ _ (Sql fault) e);
       opens = c.in-Ok.ensures.opens;
-      passes = pass_done query table names _ _ c.in-Ok.pass _ a b c.in-Ok.ensures.passes;
+      passes = pass_done query table stored _ _ c.in-Ok.pass _ a b c.in-Ok.ensures.passes;
     }

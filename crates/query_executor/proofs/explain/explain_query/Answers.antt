@@ -1,27 +1,58 @@
-use Rattle.std.proofs.Common.{◌≡◌, ◌∙◌, false, ℕ, List, Ok, Err, IfSome, length, refl, sym, ap}
+use Rattle.std.proofs.Common.{◌≡◌, ◌∙◌, false, ℕ, List, map, Ok, Err, IfOk, IfSome, OnOk, length, refl, sym, ap, subst}
 use Rattle.sql_reply.proofs.AskedLemmas.{unasked_text}
+use Rattle.segment_head.specs.Stored.{live}
+use Rattle.segment_head.specs.declared.stored.Stored.{Stored}
+use Rattle.sql_reply.specs.declared.fault.SqlFault.TheVariants.{NoMemory}
+use Rattle.query_executor.specs.Passes.{HaveOpenings, LooksAtHeads}
+use Rattle.query_executor.specs.declared.fault.ExecutorFault.TheVariants.{Sql}
 use Rattle.query_executor.specs.Explained.{IsExplained}
 use Rattle.query_executor.specs.Lines.{plan_line}
 use Rattle.query_executor.specs.Steps.{HasLines}
-use Rattle.query_executor.proofs.ReplyLemmas.{all_explained}
-use Rattle.query_executor.proofs.EndLemmas.{found_so}
-use Rattle.outside.specs.Seen.{seen}
-use Rattle.query_executor.proofs.PassLemmas.{heads_unread}
+use Rattle.query_executor.proofs.ReplyLemmas.{all_explained, over_live}
+use Rattle.query_executor.proofs.EndLemmas.{fault_if, fault_ok, found_so, gives_fault, memory_refused}
+use Rattle.outside.specs.Seen.{Seen, seen}
+use Rattle.query_executor.proofs.PassLemmas.{heads_lacking, heads_unread}
 use Rattle.query_executor.proofs.explain.explain_query.Goals as goal
+
+pub explain_bound-requires : goal.explain_bound-requires
+explain_bound-requires g c = record { of_table = over_live c.args.table.now c.args.names.now c.as_slice.result.now (c.as_slice.ensures.value ∙ c.in_ok-stored.ensures) c.requires; query = c.in-Ok.ensures.valid }
 
 pub returns-in-Ok-clause-reply : goal.returns-in-Ok-clause-reply
 returns-in-Ok-clause-reply g c =
     let table = c.args.table.now in
-    let names : List (List ℕ) = c.args.names.now in
+    let stored : List Stored = c.as_slice.result.now in
     let held = g.S.Shelf.held c.args.shelf.now in
-    found_so c.explain_bound.result
-    (HasLines (plan_line c.in-Ok.bound table) table held names (length names))
-    (λ text. IfSome held (λ files. IsExplained table files names c.args.sql.now (Ok text)))
-    (all_explained c.in-Ok.bound table names c.args.sql.now c.in-Ok.ensures.asked held)
-    c.explain_bound.ensures.lines
+    subst (λ l. IfOk c.explain_bound.result (λ text. IfSome held (λ files. IsExplained table files l c.args.sql.now (Ok text)))) (c.as_slice.ensures.value ∙ c.in_ok-stored.ensures)
+    (found_so c.explain_bound.result
+    (HasLines (plan_line c.in-Ok.bound table) table held stored (length stored))
+    (λ text. IfSome held (λ files. IsExplained table files stored c.args.sql.now (Ok text)))
+    (all_explained c.in-Ok.bound table stored c.args.sql.now c.in-Ok.ensures.asked held)
+    c.explain_bound.ensures.lines)
 
 pub returns-in-Ok-clause-of_text : goal.returns-in-Ok-clause-of_text
 returns-in-Ok-clause-of_text g c = λ fault is real. absurd (real (c.explain_bound.ensures.never_wrong fault is))
+
+pub returns-in-Ok-clause-opens : goal.returns-in-Ok-clause-opens
+returns-in-Ok-clause-opens g c =
+    subst (λ l. OnOk c.explain_bound.result (HaveOpenings c.args.table.now (g.S.Shelf.held c.args.shelf.now) l)) (c.as_slice.ensures.value ∙ c.in_ok-stored.ensures) c.explain_bound.ensures.opens
+
+pub returns-in-Ok-clause-looks : goal.returns-in-Ok-clause-looks
+returns-in-Ok-clause-looks g c =
+    subst (λ l. LooksAtHeads c.args.table.now l (seen g.S.Shelf c.args.shelf.now) (seen g.S.Shelf c.explain_bound.new.shelf) c.explain_bound.result) (c.as_slice.ensures.value ∙ c.in_ok-stored.ensures) c.explain_bound.ensures.looks
+
+pub returns-in_err-stored : goal.returns-in_err-stored
+returns-in_err-stored g c =
+    let table = c.args.table.now in
+    let stored : List Stored = map live c.args.names.now in
+    let a : Seen = seen g.S.Shelf c.args.shelf.now in
+    let r = c.from_residual.result in
+    let is = gives_fault _ r (Sql NoMemory) c.from_residual.ensures.1 in
+    record {
+      reply = fault_if _ r (Sql NoMemory) _ is;
+      of_text = λ fault e real. absurd (memory_refused _ r fault is e real);
+      opens = fault_ok _ r (Sql NoMemory) (HaveOpenings table a.held stored) is;
+      looks = heads_lacking table stored _ r a is;
+    }
 
 pub returns-in-Err-clause-of_text : goal.returns-in-Err-clause-of_text
 returns-in-Err-clause-of_text g c = λ fault is real.
@@ -30,4 +61,4 @@ returns-in-Err-clause-of_text g c = λ fault is real.
     (unasked_text c.args.table.now false c.args.sql.now fault asked_so real, refl, asked_so)
 
 pub returns-in-Err-clause-looks : goal.returns-in-Err-clause-looks
-returns-in-Err-clause-looks g c = heads_unread c.args.table.now c.args.names.now _ c.in-Err.fault (seen g.S.Shelf c.args.shelf.now)
+returns-in-Err-clause-looks g c = heads_unread c.args.table.now (map live c.args.names.now) _ c.in-Err.fault (seen g.S.Shelf c.args.shelf.now)

@@ -1,7 +1,6 @@
 use Rattle.std.proofs.Common.{◌≡◌, ◌∙◌, ◌+◌, ◌*◌, ◌-◌, ◌<◌, [], ℕ, true, false, List, IfSome, Err, length, get_or, sym, ap, subst, arith}
 use Rattle.outside.specs.Seen.{Seen, seen}
 use Rattle.agg_laws.specs.Numbers.{most_values}
-use Rattle.segment_file.specs.Names.{file_of}
 use Rattle.segment_head.specs.declared.fault.EngineFault.TheVariants as engine
 use Rattle.group_table.specs.Groups.{Groups}
 use Rattle.group_table.specs.Kept.{groups_in}
@@ -10,7 +9,7 @@ use Rattle.scan_engine.specs.Scanned.{HaveAtMost}
 use Rattle.scan_engine.proofs.AddLemmas.{at_most_more}
 use Rattle.sql_reply.proofs.GroupLemmas.{none_fit}
 use Rattle.segment_reads.specs.Logs.{IsFileOf}
-use Rattle.segment_head.specs.Stored.{HasNoImage}
+use Rattle.segment_head.specs.Stored.{HasNoImage, segment_at}
 use borrow.Author.Count.{below_more, below_none}
 use Rattle.segment_opening.specs.Calls.{HasOpeningIn}
 use Rattle.query_executor.specs.Lines.{stats_line}
@@ -19,7 +18,7 @@ use Rattle.query_executor.proofs.LineLemmas.{lines_more, no_lines}
 use Rattle.query_executor.specs.declared.fault.ExecutorFault.TheVariants.{NotASegment, ReadFault, Sql}
 use Rattle.query_executor.proofs.FaultLemmas.{bad_so, read_so, refused_so}
 use Rattle.query_executor.proofs.GroupLemmas.{no_groups, one_more, too_many}
-use Rattle.segment_reads.proofs.NameLemmas.{among, is_named}
+use Rattle.segment_reads.proofs.NameLemmas.{among, is_at}
 use Rattle.segment_reads.proofs.LogLemmas.{logs_as, logs_none, entries_as, entries_then, logs_then, reads_as, reads_none, reads_then}
 use Rattle.segment_reads.specs.Reads.{LogsEach, ReadsPlanned}
 use Rattle.segment_reads.proofs.GrownLemmas.{IsFileBefore, each_as, each_more, each_none, each_rest, more_before, none_before, this_before}
@@ -30,174 +29,175 @@ use Rattle.sql_reply.specs.declared.fault.SqlFault.TheVariants.{NoMemory}
 use Rattle.query_executor.proofs.EndLemmas.{gives_fault, memory_refused, no_fault}
 use Rattle.query_executor.proofs.PassLemmas.{pass_unread}
 use Rattle.query_executor.proofs.pass.pass_over.Goals as goal
+use Rattle.segment_head.specs.declared.stored.Stored.{Stored}
 
-pub names-init : goal.names-init
-names-init g c = record {
+pub stored-init : goal.stored-init
+stored-init g c = record {
   of_query = c.in_ok-pass.ensures.groups.of_query;
   most = c.in_ok-pass.ensures.groups.most_is;
   fits = subst (λ (groups : Groups). HaveAtMost 0 groups) (sym c.in_ok-pass.ensures.groups.groups_are) (none_fit (shape_of c.args.query.now));
-  so_far = no_groups c.args.query.now c.args.table.now c.args.names.now (g.S.Shelf.held c.args.shelf.now) c.in_ok-pass.pass.groups c.in_ok-pass.ensures.groups;
+  so_far = no_groups c.args.query.now c.args.table.now c.args.stored.now (g.S.Shelf.held c.args.shelf.now) c.in_ok-pass.pass.groups c.in_ok-pass.ensures.groups;
   wants = c.in_ok-pass.ensures.wants;
-  lines = λ wanted. subst (HasLines (stats_line c.args.query.now c.args.table.now) c.args.table.now (g.S.Shelf.held c.args.shelf.now) c.args.names.now 0) (sym c.in_ok-pass.ensures.lines) (no_lines (stats_line c.args.query.now c.args.table.now) c.args.table.now c.args.names.now (g.S.Shelf.held c.args.shelf.now));
-  opens = below_none (λ k. HasOpeningIn c.args.table.now (g.S.Shelf.held c.args.shelf.now) (get_or c.args.names.now k []));
+  lines = λ wanted. subst (HasLines (stats_line c.args.query.now c.args.table.now) c.args.table.now (g.S.Shelf.held c.args.shelf.now) c.args.stored.now 0) (sym c.in_ok-pass.ensures.lines) (no_lines (stats_line c.args.query.now c.args.table.now) c.args.table.now c.args.stored.now (g.S.Shelf.held c.args.shelf.now));
+  opens = below_none (λ k. HasOpeningIn c.args.table.now (g.S.Shelf.held c.args.shelf.now) (segment_at c.args.stored.now k));
   reads = reads_none (seen g.S.Shelf c.args.shelf.now);
-  log = logs_none (IsFileOf c.args.names.now) (g.S.Shelf.log c.args.shelf.now);
-  files = none_before c.args.names.now (g.S.Shelf.log c.args.shelf.now);
-  each = each_none (ReadsPlanned c.args.query.now c.args.table.now true) c.args.table.now (g.S.Shelf.held c.args.shelf.now) c.args.names.now (g.S.Shelf.log c.args.shelf.now);
+  log = logs_none (IsFileOf c.args.stored.now) (g.S.Shelf.log c.args.shelf.now);
+  files = none_before c.args.stored.now (g.S.Shelf.log c.args.shelf.now);
+  each = each_none (ReadsPlanned c.args.query.now c.args.table.now true) c.args.table.now (g.S.Shelf.held c.args.shelf.now) c.args.stored.now (g.S.Shelf.log c.args.shelf.now);
 }
 
 pub pass_one-requires : goal.pass_one-requires
 pass_one-requires g c =
-    let names : List (List ℕ) = c.args.names.now in
-    let lt : c.names.at < length names = omega arith in
-    let text : List ℕ = c.as_str.result.now in
-    let is : text ≡ get_or names c.names.at [] = is_named names c.names.at text c.index-names-at.result lt c.as_str.ensures c.index-names-at.is in
+    let stored : List Stored = c.args.stored.now in
+    let lt : c.stored.at < length stored = omega arith in
+    let segment : Stored = c.index-stored-at.result in
+    let is : segment ≡ segment_at stored c.stored.at = is_at stored c.stored.at segment lt c.index-stored-at.is in
     record {
       of_table = record {
         valid = c.requires.of_table.valid;
-        name = subst IsSegmentName (sym is) (c.requires.of_table.named c.names.at [] lt);
+        segment = subst IsSegmentName (sym is) (c.requires.of_table.named c.stored.at [] lt);
         query = c.requires.query;
       };
       room = record {
-        of_query = c.names.invariant.of_query;
-        fits = at_most_more (groups_in c.names.pass.groups) (c.names.at * 1048576) (most_values - 1048576) (omega (arith, lt, c.requires.of_table.at_most)) c.names.invariant.fits;
+        of_query = c.stored.invariant.of_query;
+        fits = at_most_more (groups_in c.stored.pass.groups) (c.stored.at * 1048576) (most_values - 1048576) (omega (arith, lt, c.requires.of_table.at_most)) c.stored.invariant.fits;
       };
     }
 
-pub names-preserved : goal.names-preserved
-names-preserved g c =
+pub stored-preserved : goal.stored-preserved
+stored-preserved g c =
     let a : Seen = seen g.S.Shelf c.args.shelf.now in
-    let b : Seen = seen g.S.Shelf c.names.shelf in
+    let b : Seen = seen g.S.Shelf c.stored.shelf in
     let d : Seen = seen g.S.Shelf c.pass_one.new.shelf in
     let query = c.args.query.now in
     let table = c.args.table.now in
-    let names : List (List ℕ) = c.args.names.now in
-    let text : List ℕ = c.as_str.result.now in
-    let lt : c.names.at < length names = omega arith in
-    let is : text ≡ get_or names c.names.at [] = is_named names c.names.at text c.index-names-at.result lt c.as_str.ensures c.index-names-at.is in
-    let added : AddsStored query table a.held (get_or names c.names.at []) c.names.pass.groups c.pass_one.new.pass.groups =
-    subst (λ name. AddsStored query table a.held name c.names.pass.groups c.pass_one.new.pass.groups) is
-    (subst (λ held. AddsStored query table held text c.names.pass.groups c.pass_one.new.pass.groups) c.names.invariant.reads.held c.in-Ok.ensures.adds.added) in
+    let stored : List Stored = c.args.stored.now in
+    let segment : Stored = c.index-stored-at.result in
+    let lt : c.stored.at < length stored = omega arith in
+    let is : segment ≡ segment_at stored c.stored.at = is_at stored c.stored.at segment lt c.index-stored-at.is in
+    let added : AddsStored query table a.held (segment_at stored c.stored.at) c.stored.pass.groups c.pass_one.new.pass.groups =
+    subst (λ segment. AddsStored query table a.held segment c.stored.pass.groups c.pass_one.new.pass.groups) is
+    (subst (λ held. AddsStored query table held segment c.stored.pass.groups c.pass_one.new.pass.groups) c.stored.invariant.reads.held c.in-Ok.ensures.adds.added) in
     record {
       of_query = added.of_query;
-      most = added.most ∙ c.names.invariant.most;
-      fits = at_most_more (groups_in c.pass_one.new.pass.groups) (c.names.at * 1048576 + 1048576) ((c.names.at + 1) * 1048576) (omega arith) (added.fits (c.names.at * 1048576) c.names.invariant.fits);
-      so_far = one_more query table names a.held c.names.at c.names.pass.groups c.pass_one.new.pass.groups lt c.names.invariant.so_far added;
-      wants = c.in-Ok.ensures.wants ∙ c.names.invariant.wants;
-      lines = λ wanted. lines_more (stats_line query table) table names a.held c.names.at c.names.pass.lines.items c.pass_one.new.pass.lines.items lt (c.names.invariant.lines wanted)
-          (subst (λ name. AddsLine (stats_line query table) table a.held name c.names.pass.lines.items c.pass_one.new.pass.lines.items) is
-          (subst (λ held. AddsLine (stats_line query table) table held text c.names.pass.lines.items c.pass_one.new.pass.lines.items) c.names.invariant.reads.held (c.in-Ok.ensures.lines (c.names.invariant.wants ∙ wanted))));
+      most = added.most ∙ c.stored.invariant.most;
+      fits = at_most_more (groups_in c.pass_one.new.pass.groups) (c.stored.at * 1048576 + 1048576) ((c.stored.at + 1) * 1048576) (omega arith) (added.fits (c.stored.at * 1048576) c.stored.invariant.fits);
+      so_far = one_more query table stored a.held c.stored.at c.stored.pass.groups c.pass_one.new.pass.groups lt c.stored.invariant.so_far added;
+      wants = c.in-Ok.ensures.wants ∙ c.stored.invariant.wants;
+      lines = λ wanted. lines_more (stats_line query table) table stored a.held c.stored.at c.stored.pass.lines.items c.pass_one.new.pass.lines.items lt (c.stored.invariant.lines wanted)
+          (subst (λ segment. AddsLine (stats_line query table) table a.held segment c.stored.pass.lines.items c.pass_one.new.pass.lines.items) is
+          (subst (λ held. AddsLine (stats_line query table) table held segment c.stored.pass.lines.items c.pass_one.new.pass.lines.items) c.stored.invariant.reads.held (c.in-Ok.ensures.lines (c.stored.invariant.wants ∙ wanted))));
       opens =
-          let own : HasOpeningIn table a.held (get_or names c.names.at []) =
-          subst (λ name. HasOpeningIn table a.held name) is
-          (subst (λ held. HasOpeningIn table held text) c.names.invariant.reads.held c.in-Ok.ensures.opens) in
-          below_more (λ k. HasOpeningIn table a.held (get_or names k [])) c.names.at c.names.invariant.opens own;
-      reads = reads_then a b d c.names.invariant.reads (reads_as b d c.in-Ok.ensures.adds.only_reads (λ e. absurd e) (λ e. absurd cc));
-      log = logs_then (IsFileOf names) a.log b.log d.log c.names.invariant.log
-          (logs_as (λ file. file ≡ file_of text) (IsFileOf names) b.log d.log (λ file e. (get_or names c.names.at [], among names c.names.at lt, e ∙ ap file_of is)) c.in-Ok.ensures.adds.log);
-      files = entries_then (λ entry. IsFileBefore names (c.names.at + 1) entry.file) a.log b.log d.log
-          (entries_as (λ entry. IsFileBefore names c.names.at entry.file) (λ entry. IsFileBefore names (c.names.at + 1) entry.file) a.log b.log (λ entry h. more_before names c.names.at entry.file h) c.names.invariant.files)
-          (entries_as (λ entry. entry.file ≡ file_of text) (λ entry. IsFileBefore names (c.names.at + 1) entry.file) b.log d.log (λ entry e. this_before names c.names.at text entry.file is e) c.in-Ok.ensures.adds.log);
-      each = each_more (ReadsPlanned query table true) table a.held names (planned_of_file query table true) b.held c.names.at text a.log b.log d.log lt is c.names.invariant.reads.held c.names.invariant.files c.in-Ok.ensures.adds.log c.names.invariant.each c.in-Ok.ensures.adds.reads;
+          let own : HasOpeningIn table a.held (segment_at stored c.stored.at) =
+          subst (λ segment. HasOpeningIn table a.held segment) is
+          (subst (λ held. HasOpeningIn table held segment) c.stored.invariant.reads.held c.in-Ok.ensures.opens) in
+          below_more (λ k. HasOpeningIn table a.held (segment_at stored k)) c.stored.at c.stored.invariant.opens own;
+      reads = reads_then a b d c.stored.invariant.reads (reads_as b d c.in-Ok.ensures.adds.only_reads (λ e. absurd e) (λ e. absurd cc));
+      log = logs_then (IsFileOf stored) a.log b.log d.log c.stored.invariant.log
+          (logs_as (λ file. file ≡ segment.file) (IsFileOf stored) b.log d.log (λ file e. (segment_at stored c.stored.at, among stored c.stored.at lt, e ∙ ap (λ (s : Stored). s.file) is)) c.in-Ok.ensures.adds.log);
+      files = entries_then (λ entry. IsFileBefore stored (c.stored.at + 1) entry.file) a.log b.log d.log
+          (entries_as (λ entry. IsFileBefore stored c.stored.at entry.file) (λ entry. IsFileBefore stored (c.stored.at + 1) entry.file) a.log b.log (λ entry h. more_before stored c.stored.at entry.file h) c.stored.invariant.files)
+          (entries_as (λ entry. entry.file ≡ segment.file) (λ entry. IsFileBefore stored (c.stored.at + 1) entry.file) b.log d.log (λ entry e. this_before stored c.stored.at segment entry.file is e) c.in-Ok.ensures.adds.log);
+      each = each_more (ReadsPlanned query table true) table a.held stored (planned_of_file query table true) b.held c.stored.at segment a.log b.log d.log lt is c.stored.invariant.reads.held c.stored.invariant.files c.in-Ok.ensures.adds.log c.stored.invariant.each c.in-Ok.ensures.adds.reads;
     }
 
 pub returns-in-Err-clause-refused : goal.returns-in-Err-clause-refused
 returns-in-Err-clause-refused g c = λ fault is real.
     let query = c.args.query.now in
     let table = c.args.table.now in
-    let names : List (List ℕ) = c.args.names.now in
-    let text : List ℕ = c.as_str.result.now in
-    let lt : c.names.at < length names = omega arith in
-    let named : text ≡ get_or names c.names.at [] = is_named names c.names.at text c.index-names-at.result lt c.as_str.ensures c.index-names-at.is in
+    let stored : List Stored = c.args.stored.now in
+    let segment : Stored = c.index-stored-at.result in
+    let lt : c.stored.at < length stored = omega arith in
+    let named : segment ≡ segment_at stored c.stored.at = is_at stored c.stored.at segment lt c.index-stored-at.is in
     let (full, fault_is) = refused_so _ c.in-Err.fault fault (sym c.fault_at.ensures ∙ cc) real in
     let held = g.S.Shelf.held c.args.shelf.now in
-    let over : IsStoredOverfull query table held (get_or names c.names.at []) c.names.pass.groups =
-    subst (λ name. IsStoredOverfull query table held name c.names.pass.groups) named
-    (subst (λ held. IsStoredOverfull query table held text c.names.pass.groups) c.names.invariant.reads.held (c.in-Err.ensures.adds.full (ap Err full))) in
-    (fault_is, too_many query table names held c.names.at c.names.pass.groups lt c.names.invariant.most c.names.invariant.so_far over)
+    let over : IsStoredOverfull query table held (segment_at stored c.stored.at) c.stored.pass.groups =
+    subst (λ segment. IsStoredOverfull query table held segment c.stored.pass.groups) named
+    (subst (λ held. IsStoredOverfull query table held segment c.stored.pass.groups) c.stored.invariant.reads.held (c.in-Err.ensures.adds.full (ap Err full))) in
+    (fault_is, too_many query table stored held c.stored.at c.stored.pass.groups lt c.stored.invariant.most c.stored.invariant.so_far over)
 
 pub returns-in-Err-clause-passes : goal.returns-in-Err-clause-passes
 returns-in-Err-clause-passes g c = record {
   bad = λ at part is.
-      let names : List (List ℕ) = c.args.names.now in
-      let text : List ℕ = c.as_str.result.now in
-      let lt : c.names.at < length names = omega arith in
-      let named : text ≡ get_or names c.names.at [] = is_named names c.names.at text c.index-names-at.result lt c.as_str.ensures c.index-names-at.is in
+      let stored : List Stored = c.args.stored.now in
+      let segment : Stored = c.index-stored-at.result in
+      let lt : c.stored.at < length stored = omega arith in
+      let named : segment ≡ segment_at stored c.stored.at = is_at stored c.stored.at segment lt c.index-stored-at.is in
       let (at_is, bad) = bad_so _ at c.in-Err.fault part (sym c.fault_at.ensures ∙ cc) in
-      let none : IfSome (g.S.Shelf.held c.args.shelf.now) (λ files. HasNoImage c.args.table.now files (get_or names c.names.at [])) =
-      subst (λ name. IfSome (g.S.Shelf.held c.args.shelf.now) (λ files. HasNoImage c.args.table.now files name)) named
-      (subst (λ held. IfSome held (λ files. HasNoImage c.args.table.now files text)) c.names.invariant.reads.held (c.in-Err.ensures.adds.bad part (ap Err bad))) in
-      (omega (arith, at_is, lt), subst (λ k. IfSome (g.S.Shelf.held c.args.shelf.now) (λ files. HasNoImage c.args.table.now files (get_or names k []))) at_is none);
+      let none : IfSome (g.S.Shelf.held c.args.shelf.now) (λ files. HasNoImage c.args.table.now files (segment_at stored c.stored.at)) =
+      subst (λ segment. IfSome (g.S.Shelf.held c.args.shelf.now) (λ files. HasNoImage c.args.table.now files segment)) named
+      (subst (λ held. IfSome held (λ files. HasNoImage c.args.table.now files segment)) c.stored.invariant.reads.held (c.in-Err.ensures.adds.bad part (ap Err bad))) in
+      (omega (arith, at_is, lt), subst (λ k. IfSome (g.S.Shelf.held c.args.shelf.now) (λ files. HasNoImage c.args.table.now files (segment_at stored k))) at_is none);
   only_reads =
       let a : Seen = seen g.S.Shelf c.args.shelf.now in
-      let b : Seen = seen g.S.Shelf c.names.shelf in
+      let b : Seen = seen g.S.Shelf c.stored.shelf in
       let d : Seen = seen g.S.Shelf c.pass_one.new.shelf in
-      reads_then a b d c.names.invariant.reads
+      reads_then a b d c.stored.invariant.reads
       (reads_as b d c.in-Err.ensures.adds.only_reads (λ e. let own : c.fault_at.result ≡ ReadFault = cc in ap Err (read_so _ c.in-Err.fault (sym c.fault_at.ensures ∙ own)))
       (λ e. let own : c.in-Err.fault ≡ engine.ReadFault = cc in ap Err (c.fault_at.ensures ∙ ap (fault_at _) own)));
   log =
-      let names : List (List ℕ) = c.args.names.now in
-      let text : List ℕ = c.as_str.result.now in
-      let lt : c.names.at < length names = omega arith in
-      let named : text ≡ get_or names c.names.at [] = is_named names c.names.at text c.index-names-at.result lt c.as_str.ensures c.index-names-at.is in
-      let b = g.S.Shelf.log c.names.shelf in
+      let stored : List Stored = c.args.stored.now in
+      let segment : Stored = c.index-stored-at.result in
+      let lt : c.stored.at < length stored = omega arith in
+      let named : segment ≡ segment_at stored c.stored.at = is_at stored c.stored.at segment lt c.index-stored-at.is in
+      let b = g.S.Shelf.log c.stored.shelf in
       let d = g.S.Shelf.log c.pass_one.new.shelf in
-      logs_then (IsFileOf names) (g.S.Shelf.log c.args.shelf.now) b d c.names.invariant.log
-      (logs_as (λ file. file ≡ file_of text) (IsFileOf names) b d (λ file e. (get_or names c.names.at [], among names c.names.at lt, e ∙ ap file_of named)) c.in-Err.ensures.adds.log);
+      logs_then (IsFileOf stored) (g.S.Shelf.log c.args.shelf.now) b d c.stored.invariant.log
+      (logs_as (λ file. file ≡ segment.file) (IsFileOf stored) b d (λ file e. (segment_at stored c.stored.at, among stored c.stored.at lt, e ∙ ap segment.filed)) c.in-Err.ensures.adds.log);
   reads = tt;
   reads_of_fault =
       let a : Seen = seen g.S.Shelf c.args.shelf.now in
-      let b : Seen = seen g.S.Shelf c.names.shelf in
+      let b : Seen = seen g.S.Shelf c.stored.shelf in
       let d : Seen = seen g.S.Shelf c.pass_one.new.shelf in
       let query = c.args.query.now in
       let table = c.args.table.now in
-      let names : List (List ℕ) = c.args.names.now in
-      let text : List ℕ = c.as_str.result.now in
-      let lt : c.names.at < length names = omega arith in
-      let is : text ≡ get_or names c.names.at [] = is_named names c.names.at text c.index-names-at.result lt c.as_str.ensures c.index-names-at.is in
-      let before = each_as (ReadsPlanned query table true) (ReadsPlanned query table false) table a.held names c.names.at a.log b.log (planned_less query table) c.names.invariant.each in
-      let here = each_more (ReadsPlanned query table false) table a.held names (planned_of_file query table false) b.held c.names.at text a.log b.log d.log lt is c.names.invariant.reads.held c.names.invariant.files c.in-Err.ensures.adds.log before c.in-Err.ensures.adds.reads_of_fault in
-      let files = entries_then (λ entry. IsFileBefore names (c.names.at + 1) entry.file) a.log b.log d.log
-      (entries_as (λ entry. IsFileBefore names c.names.at entry.file) (λ entry. IsFileBefore names (c.names.at + 1) entry.file) a.log b.log (λ entry h. more_before names c.names.at entry.file h) c.names.invariant.files)
-      (entries_as (λ entry. entry.file ≡ file_of text) (λ entry. IsFileBefore names (c.names.at + 1) entry.file) b.log d.log (λ entry e. this_before names c.names.at text entry.file is e) c.in-Err.ensures.adds.log) in
-      each_rest (ReadsPlanned query table false) table a.held names (planned_of_file query table false) (c.names.at + 1) a.log d.log (omega (arith, lt)) (nothing_read c.docs_bound_law.ensures.bound query table c.requires.of_table.valid a.held) files here;
+      let stored : List Stored = c.args.stored.now in
+      let segment : Stored = c.index-stored-at.result in
+      let lt : c.stored.at < length stored = omega arith in
+      let is : segment ≡ segment_at stored c.stored.at = is_at stored c.stored.at segment lt c.index-stored-at.is in
+      let before = each_as (ReadsPlanned query table true) (ReadsPlanned query table false) table a.held stored c.stored.at a.log b.log (planned_less query table) c.stored.invariant.each in
+      let here = each_more (ReadsPlanned query table false) table a.held stored (planned_of_file query table false) b.held c.stored.at segment a.log b.log d.log lt is c.stored.invariant.reads.held c.stored.invariant.files c.in-Err.ensures.adds.log before c.in-Err.ensures.adds.reads_of_fault in
+      let files = entries_then (λ entry. IsFileBefore stored (c.stored.at + 1) entry.file) a.log b.log d.log
+      (entries_as (λ entry. IsFileBefore stored c.stored.at entry.file) (λ entry. IsFileBefore stored (c.stored.at + 1) entry.file) a.log b.log (λ entry h. more_before stored c.stored.at entry.file h) c.stored.invariant.files)
+      (entries_as (λ entry. entry.file ≡ segment.file) (λ entry. IsFileBefore stored (c.stored.at + 1) entry.file) b.log d.log (λ entry e. this_before stored c.stored.at segment entry.file is e) c.in-Err.ensures.adds.log) in
+      each_rest (ReadsPlanned query table false) table a.held stored (planned_of_file query table false) (c.stored.at + 1) a.log d.log (omega (arith, lt)) (nothing_read c.docs_bound_law.ensures.bound query table c.requires.of_table.valid a.held) files here;
 }
 
 pub returns-in_err-pass-clause-passes : goal.returns-in_err-pass-clause-passes
 returns-in_err-pass-clause-passes g c =
-    pass_unread c.args.query.now c.args.table.now c.args.names.now c.docs_bound_law.ensures.bound c.requires.of_table.valid _ c.from_residual.result (seen g.S.Shelf c.args.shelf.now) (gives_fault _ c.from_residual.result (Sql NoMemory) c.from_residual.ensures.1)
+    pass_unread c.args.query.now c.args.table.now c.args.stored.now c.docs_bound_law.ensures.bound c.requires.of_table.valid _ c.from_residual.result (seen g.S.Shelf c.args.shelf.now) (gives_fault _ c.from_residual.result (Sql NoMemory) c.from_residual.ensures.1)
 
 pub returns-in_err-pass-clause-refused : goal.returns-in_err-pass-clause-refused
 returns-in_err-pass-clause-refused g c = λ fault e real. absurd (memory_refused _ c.from_residual.result fault (gives_fault _ c.from_residual.result (Sql NoMemory) c.from_residual.ensures.1) e real)
 
 pub returns-clause-made : goal.returns-clause-made
 returns-clause-made g c = record {
-  of_query = c.names.invariant.of_query;
-  most = c.names.invariant.most;
+  of_query = c.stored.invariant.of_query;
+  most = c.stored.invariant.most;
   groups =
-      let names : List (List ℕ) = c.args.names.now in
-      let done : c.names.at ≡ length names = omega arith in
-      subst (λ k. HasGroups c.args.query.now c.args.table.now (g.S.Shelf.held c.args.shelf.now) names k c.names.pass.groups) done c.names.invariant.so_far;
+      let stored : List Stored = c.args.stored.now in
+      let done : c.stored.at ≡ length stored = omega arith in
+      subst (λ k. HasGroups c.args.query.now c.args.table.now (g.S.Shelf.held c.args.shelf.now) stored k c.stored.pass.groups) done c.stored.invariant.so_far;
   lines = λ wanted.
-      let names : List (List ℕ) = c.args.names.now in
-      let done : c.names.at ≡ length names = omega arith in
-      subst (λ k. HasLines (stats_line c.args.query.now c.args.table.now) c.args.table.now (g.S.Shelf.held c.args.shelf.now) names k c.names.pass.lines.items) done (c.names.invariant.lines wanted);
+      let stored : List Stored = c.args.stored.now in
+      let done : c.stored.at ≡ length stored = omega arith in
+      subst (λ k. HasLines (stats_line c.args.query.now c.args.table.now) c.args.table.now (g.S.Shelf.held c.args.shelf.now) stored k c.stored.pass.lines.items) done (c.stored.invariant.lines wanted);
 }
 
 pub returns-clause-passes : goal.returns-clause-passes
 returns-clause-passes g c = record {
-  bad = λ at part e. absurd (no_fault _ c.names.pass (NotASegment at part) e);
-  only_reads = reads_as (seen g.S.Shelf c.args.shelf.now) (seen g.S.Shelf c.names.shelf) c.names.invariant.reads (λ e. absurd cc) (λ e. absurd e);
-  log = c.names.invariant.log;
+  bad = λ at part e. absurd (no_fault _ c.stored.pass (NotASegment at part) e);
+  only_reads = reads_as (seen g.S.Shelf c.args.shelf.now) (seen g.S.Shelf c.stored.shelf) c.stored.invariant.reads (λ e. absurd cc) (λ e. absurd e);
+  log = c.stored.invariant.log;
   reads =
-      let names : List (List ℕ) = c.args.names.now in
-      let done : c.names.at ≡ length names = omega arith in
-      subst (λ k. LogsEach (ReadsPlanned c.args.query.now c.args.table.now true) c.args.table.now (g.S.Shelf.held c.args.shelf.now) names k (g.S.Shelf.log c.args.shelf.now) (g.S.Shelf.log c.names.shelf)) done c.names.invariant.each;
+      let stored : List Stored = c.args.stored.now in
+      let done : c.stored.at ≡ length stored = omega arith in
+      subst (λ k. LogsEach (ReadsPlanned c.args.query.now c.args.table.now true) c.args.table.now (g.S.Shelf.held c.args.shelf.now) stored k (g.S.Shelf.log c.args.shelf.now) (g.S.Shelf.log c.stored.shelf)) done c.stored.invariant.each;
   reads_of_fault = tt;
 }
 
 pub returns-clause-opens : goal.returns-clause-opens
 returns-clause-opens g c = λ at lt.
-    let names : List (List ℕ) = c.args.names.now in
-    let done : c.names.at ≡ length names = omega arith in
-    c.names.invariant.opens at (omega (arith, done, lt))
+    let stored : List Stored = c.args.stored.now in
+    let done : c.stored.at ≡ length stored = omega arith in
+    c.stored.invariant.opens at (omega (arith, done, lt))

@@ -10,18 +10,19 @@ use Rattle.segment_opening.specs.Calls.{HasOpeningIn}
 use Rattle.query_executor.specs.Steps.{HasGroups, HasLines}
 use Rattle.query_executor.specs.Lines.{stats_line}
 use Rattle.query_executor.proofs.pass.pass_over.Given as goal
+use Rattle.segment_head.specs.Stored.{segment_at}
 
-abbrev pub invariant-names : goal.invariant-names
-invariant-names g l = record {
+abbrev pub invariant-stored : goal.invariant-stored
+invariant-stored g l = record {
   of_query : IsTableOf l.query l.pass.groups;
   most : l.pass.groups.most ≡ most_groups;
   fits : HaveAtMost (l.at * 1048576) (groups_in l.pass.groups);
-  so_far : HasGroups l.query l.table (g.S.Shelf.held l.fn.shelf) l.names l.at l.pass.groups;
+  so_far : HasGroups l.query l.table (g.S.Shelf.held l.fn.shelf) l.stored l.at l.pass.groups;
   wants : l.pass.wants_lines ≡ l.fn.wants_lines;
-  lines : l.fn.wants_lines ≡ true → HasLines (stats_line l.query l.table) l.table (g.S.Shelf.held l.fn.shelf) l.names l.at l.pass.lines.items;
-  opens : (k : ℕ) → k < l.at → HasOpeningIn l.table (g.S.Shelf.held l.fn.shelf) (get_or l.names k []);
+  lines : l.fn.wants_lines ≡ true → HasLines (stats_line l.query l.table) l.table (g.S.Shelf.held l.fn.shelf) l.stored l.at l.pass.lines.items;
+  opens : (k : ℕ) → k < l.at → HasOpeningIn l.table (g.S.Shelf.held l.fn.shelf) (segment_at l.stored k);
   reads : OnlyReads ⊥ (seen g.S.Shelf l.fn.shelf) (seen g.S.Shelf l.shelf);
-  log : LogsOf l.names (g.S.Shelf.log l.fn.shelf) (g.S.Shelf.log l.shelf);
-  files : LogsWhere (IsFileBefore l.names l.at) (g.S.Shelf.log l.fn.shelf) (g.S.Shelf.log l.shelf);
-  each : LogsEach (ReadsPlanned l.query l.table true) l.table (g.S.Shelf.held l.fn.shelf) l.names l.at (g.S.Shelf.log l.fn.shelf) (g.S.Shelf.log l.shelf);
+  log : LogsOf l.stored (g.S.Shelf.log l.fn.shelf) (g.S.Shelf.log l.shelf);
+  files : LogsWhere (IsFileBefore l.stored l.at) (g.S.Shelf.log l.fn.shelf) (g.S.Shelf.log l.shelf);
+  each : LogsEach (ReadsPlanned l.query l.table true) l.table (g.S.Shelf.held l.fn.shelf) l.stored l.at (g.S.Shelf.log l.fn.shelf) (g.S.Shelf.log l.shelf);
 }

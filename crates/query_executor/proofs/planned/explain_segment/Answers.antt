@@ -16,7 +16,7 @@ pub returns-in-Err : goal.returns-in-Err
 returns-in-Err g c = record {
   ok = tt;
   opens = tt;
-  looks = head_failed c.args.table.now c.args.name.now _ _ c.in-Err.fault (seen g.S.Shelf c.args.shelf.now) (seen g.S.Shelf c.plan_segment.new.shelf) c.in-Err.ensures.looks;
+  looks = head_failed c.args.table.now c.args.segment.now _ _ c.in-Err.fault (seen g.S.Shelf c.args.shelf.now) (seen g.S.Shelf c.plan_segment.new.shelf) c.in-Err.ensures.looks;
 }
 
 pub returns-in_err-pushed : goal.returns-in_err-pushed
@@ -25,8 +25,8 @@ returns-in_err-pushed g c =
     let is = gives_fault _ r engine.NoMemory c.from_residual.ensures.1 in
     record {
       ok = fault_ok _ r engine.NoMemory _ is;
-      opens = fault_ok _ r engine.NoMemory (HasOpeningIn c.args.table.now (g.S.Shelf.held c.args.shelf.now) c.args.name.now) is;
-      looks = head_lacking c.args.table.now c.args.name.now _ _ c.in-Ok.found r (seen g.S.Shelf c.args.shelf.now) (seen g.S.Shelf c.plan_segment.new.shelf) is c.in-Ok.ensures.looks;
+      opens = fault_ok _ r engine.NoMemory (HasOpeningIn c.args.table.now (g.S.Shelf.held c.args.shelf.now) c.args.segment.now) is;
+      looks = head_lacking c.args.table.now c.args.segment.now _ _ c.in-Ok.found r (seen g.S.Shelf c.args.shelf.now) (seen g.S.Shelf c.plan_segment.new.shelf) is c.in-Ok.ensures.looks;
     }
 
 pub returns : goal.returns
@@ -34,8 +34,8 @@ returns g c =
     let a : Seen = seen g.S.Shelf c.args.shelf.now in
     let found = c.in-Ok.found in
     record {
-      ok = line_added c.args.query.now c.args.table.now c.head_tells_law.ensures c.explained_law.ensures c.requires.valid c.requires.query a.held c.args.name.now
+      ok = line_added c.args.query.now c.args.table.now c.head_tells_law.ensures c.explained_law.ensures c.requires.valid c.requires.query a.held c.args.segment.now
           found.head found.plan c.args.text.now.items c.push_line-pushed.new.text.items c.in-Ok.ensures.planned c.in_ok-pushed.ensures;
       opens = c.in-Ok.ensures.opens;
-      looks = head_done c.args.table.now c.args.name.now _ _ found tt a (seen g.S.Shelf c.plan_segment.new.shelf) c.in-Ok.ensures.looks;
+      looks = head_done c.args.table.now c.args.segment.now _ _ found tt a (seen g.S.Shelf c.plan_segment.new.shelf) c.in-Ok.ensures.looks;
     }

@@ -13,7 +13,7 @@ use Rattle.query_executor.proofs.PlanLemmas.{detailed, picked_is_within, pruned_
 use Rattle.query_executor.proofs.planned.plan_segment.Goals as goal
 
 pub open_segment-requires : goal.open_segment-requires
-open_segment-requires g c = record { valid = c.requires.valid; name = c.requires.name }
+open_segment-requires g c = record { valid = c.requires.valid; segment = c.requires.name }
 
 pub load_detailed-requires : goal.load_detailed-requires
 load_detailed-requires g c = record {
@@ -60,7 +60,7 @@ returns-then-prune g c =
 pub returns-in-Err-load_detailed : goal.returns-in-Err-load_detailed
 returns-in-Err-load_detailed g c =
     let table = c.args.table.now in
-    let name = c.args.name.now in
+    let segment = c.args.segment.now in
     let a : Seen = seen g.S.Shelf c.args.shelf.now in
     let b : Seen = seen g.S.Shelf c.open_segment.new.shelf in
     let d : Seen = seen g.S.Shelf c.load_detailed.new.shelf in
@@ -72,19 +72,19 @@ returns-in-Err-load_detailed g c =
       opens = tt;
       looks = record {
         bad = λ part is.
-            subst (λ held. IfSome held (λ files. HasNoImage table files name)) same
-            (c.in-Err-load_detailed.ensures.loads.bad part (ap Err (own_fault _ fault (engine.NotASegment part) is)) name (subst (λ held. IsHeadIn table held name head) (sym same) c.in-Ok.ensures.opened.image));
+            subst (λ held. IfSome held (λ files. HasNoImage table files segment)) same
+            (c.in-Err-load_detailed.ensures.loads.bad part (ap Err (own_fault _ fault (engine.NotASegment part) is)) segment (subst (λ held. IsHeadIn table held segment head) (sym same) c.in-Ok.ensures.opened.image));
         never_full = λ is. c.in-Err-load_detailed.ensures.loads.never_full (ap Err (own_fault _ fault engine.TooManyGroups is));
         only_reads = reads_then a b d (reads_still _ head engine.ReadFault a b c.in-Ok.ensures.looks.only_reads) (reads_failed _ _ fault engine.ReadFault b d c.in-Err-load_detailed.ensures.loads.only_reads);
-        log = entries_then (IsHeadRead table a.held name) a.log b.log d.log c.in-Ok.ensures.looks.log
-            (loaded_log table name a.held head b.log d.log c.in-Ok.ensures.opened.of c.in-Ok.ensures.opened.placed c.in-Ok.ensures.opened.ends c.in-Err-load_detailed.ensures.loads.log);
+        log = entries_then (IsHeadRead table a.held segment) a.log b.log d.log c.in-Ok.ensures.looks.log
+            (loaded_log table segment a.held head b.log d.log c.in-Ok.ensures.opened.of c.in-Ok.ensures.opened.placed c.in-Ok.ensures.opened.ends c.in-Err-load_detailed.ensures.loads.log);
       };
     }
 
 pub returns-in_err-plan : goal.returns-in_err-plan
 returns-in_err-plan g c =
     let table = c.args.table.now in
-    let name = c.args.name.now in
+    let segment = c.args.segment.now in
     let a : Seen = seen g.S.Shelf c.args.shelf.now in
     let b : Seen = seen g.S.Shelf c.open_segment.new.shelf in
     let d : Seen = seen g.S.Shelf c.load_detailed.new.shelf in
@@ -93,14 +93,14 @@ returns-in_err-plan g c =
     let is = gives_fault _ r engine.NoMemory c.from_residual.ensures.1 in
     record {
       planned = fault_if _ r engine.NoMemory _ is;
-      opens = fault_ok _ r engine.NoMemory (HasOpeningIn table a.held name) is;
+      opens = fault_ok _ r engine.NoMemory (HasOpeningIn table a.held segment) is;
       looks = record {
         bad = λ part e. absurd (fault_not _ r engine.NoMemory (engine.NotASegment part) (memory_not_bad part) is e);
         never_full = λ e. fault_not _ r engine.NoMemory engine.TooManyGroups memory_not_full is e;
         only_reads = reads_lacking _ a d (λ e. fault_not _ r engine.NoMemory engine.ReadFault memory_not_read is e)
             (reads_then a b d (reads_still _ head engine.ReadFault a b c.in-Ok.ensures.looks.only_reads) (reads_still _ tt engine.ReadFault b d c.in-Ok-load_detailed.ensures.loads.only_reads));
-        log = entries_then (IsHeadRead table a.held name) a.log b.log d.log c.in-Ok.ensures.looks.log
-            (loaded_log table name a.held head b.log d.log c.in-Ok.ensures.opened.of c.in-Ok.ensures.opened.placed c.in-Ok.ensures.opened.ends c.in-Ok-load_detailed.ensures.loads.log);
+        log = entries_then (IsHeadRead table a.held segment) a.log b.log d.log c.in-Ok.ensures.looks.log
+            (loaded_log table segment a.held head b.log d.log c.in-Ok.ensures.opened.of c.in-Ok.ensures.opened.placed c.in-Ok.ensures.opened.ends c.in-Ok-load_detailed.ensures.loads.log);
       };
     }
 
@@ -108,7 +108,7 @@ pub returns : goal.returns
 returns g c =
     let query = c.args.query.now in
     let table = c.args.table.now in
-    let name = c.args.name.now in
+    let segment = c.args.segment.now in
     let a : Seen = seen g.S.Shelf c.args.shelf.now in
     let b : Seen = seen g.S.Shelf c.open_segment.new.shelf in
     let d : Seen = seen g.S.Shelf c.load_detailed.new.shelf in
@@ -120,7 +120,7 @@ returns g c =
         plan_is = c.in_ok-plan.ensures;
         detailed = detailed query table full c.in_ok-plan.plan c.pick-tree.result
             (c.pick-tree.ensures ∙ ap (picked query) c.as_slice.ensures) c.in-Ok-load_detailed.ensures.filtered c.in-Ok-load_detailed.ensures.factors c.in_ok-plan.ensures;
-        image = image_grown table name a.held b.held head full c.in-Ok.ensures.looks.only_reads.held c.in-Ok-load_detailed.ensures.loads.grows c.in-Ok.ensures.opened.image;
+        image = image_grown table segment a.held b.held head full c.in-Ok.ensures.looks.only_reads.held c.in-Ok-load_detailed.ensures.loads.grows c.in-Ok.ensures.opened.image;
       };
       opens = c.in-Ok.ensures.opened.opening;
       looks = record {
@@ -128,7 +128,7 @@ returns g c =
         never_full = λ e. no_fault _ _ engine.TooManyGroups e;
         only_reads = reads_lacking _ a d (λ e. no_fault _ _ engine.ReadFault e)
             (reads_then a b d (reads_still _ head engine.ReadFault a b c.in-Ok.ensures.looks.only_reads) (reads_still _ tt engine.ReadFault b d c.in-Ok-load_detailed.ensures.loads.only_reads));
-        log = entries_then (IsHeadRead table a.held name) a.log b.log d.log c.in-Ok.ensures.looks.log
-            (loaded_log table name a.held head b.log d.log c.in-Ok.ensures.opened.of c.in-Ok.ensures.opened.placed c.in-Ok.ensures.opened.ends c.in-Ok-load_detailed.ensures.loads.log);
+        log = entries_then (IsHeadRead table a.held segment) a.log b.log d.log c.in-Ok.ensures.looks.log
+            (loaded_log table segment a.held head b.log d.log c.in-Ok.ensures.opened.of c.in-Ok.ensures.opened.placed c.in-Ok.ensures.opened.ends c.in-Ok-load_detailed.ensures.loads.log);
       };
     }

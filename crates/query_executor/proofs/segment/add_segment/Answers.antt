@@ -3,7 +3,6 @@ use Rattle.outside.specs.Seen.{Seen, seen}
 use Rattle.eligibility.specs.Rule.{picked}
 use Rattle.std.specs.Prelude.{OnOk}
 use Rattle.segment_head.specs.Heads.{AreIn}
-use Rattle.segment_file.specs.Names.{file_of}
 use Rattle.segment_head.specs.declared.fault.EngineFault.TheVariants as engine
 use Rattle.segment_head.specs.Stored.{HasNoImage}
 use Rattle.query_executor.specs.Steps.{AddsStored, IsStoredOverfull}
@@ -20,6 +19,7 @@ use Rattle.segment_scan.proofs.SegmentLemmas.{ok_so}
 use Rattle.segment_reads.specs.Reads.{LogsOne, ReadsPlanned}
 use Rattle.query_executor.proofs.OneReads.{err_so, given_up, headed_one, heads_then, loaded_one, opened_one, quiet_one, spread_later}
 use Rattle.query_executor.proofs.segment.add_segment.Goals as goal
+use Rattle.segment_head.specs.declared.stored.Stored.{Stored}
 
 -- what holds, holds of a call that ended well
 on_ok : {T E : Type 0} {P : Type 0} (r : Result T E) → P → OnOk r P
@@ -27,7 +27,7 @@ on_ok (Ok t) p = p
 on_ok (Err e) p = tt
 
 pub open_segment-requires : goal.open_segment-requires
-open_segment-requires g c = record { valid = c.requires.of_table.valid; name = c.requires.of_table.name }
+open_segment-requires g c = record { valid = c.requires.of_table.valid; segment = c.requires.of_table.name }
 
 pub load_wanted-requires : goal.load_wanted-requires
 load_wanted-requires g c = record { valid = c.requires.of_table.valid; query = c.requires.of_table.query; of_table = c.in-Ok.ensures.opened.of }
@@ -48,16 +48,16 @@ returns-in-Err g c =
     let a : Seen = seen g.S.Shelf c.args.shelf.now in
     let b : Seen = seen g.S.Shelf c.open_segment.new.shelf in
     let table = c.args.table.now in
-    let name = c.args.name.now in
+    let segment = c.args.segment.now in
     record {
       adds = record {
         added = tt;
         full = λ is. absurd (c.in-Err.ensures.looks.never_full (ap Err (own_fault _ c.in-Err.fault engine.TooManyGroups is)));
         bad = λ part is. c.in-Err.ensures.looks.bad part (ap Err (own_fault _ c.in-Err.fault (engine.NotASegment part) is));
         only_reads = reads_failed _ _ c.in-Err.fault engine.ReadFault a b c.in-Err.ensures.looks.only_reads;
-        log = head_in table name a.held a.log b.log c.in-Err.ensures.looks.log;
+        log = head_in table segment a.held a.log b.log c.in-Err.ensures.looks.log;
         reads = tt;
-        reads_of_fault = given_up c.args.query.now table name c.docs_bound_law.ensures.bound c.requires.of_table.valid a.held a.log b.log (opened_one c.args.query.now table name c.requires.of_table.valid c.requires.of_table.name a.held a.log b.log c.in-Err.ensures.looks.log);
+        reads_of_fault = given_up c.args.query.now table segment c.docs_bound_law.ensures.bound c.requires.of_table.valid a.held a.log b.log (opened_one c.args.query.now table segment c.requires.of_table.valid c.requires.of_table.name a.held a.log b.log c.in-Err.ensures.looks.log);
       };
       opens = tt;
       done = tt;
@@ -69,19 +69,19 @@ returns-then-prune g c =
     let b : Seen = seen g.S.Shelf c.open_segment.new.shelf in
     let query = c.args.query.now in
     let table = c.args.table.now in
-    let name = c.args.name.now in
+    let segment = c.args.segment.now in
     let head = c.in-Ok.head in
     let is = sym c.prune.ensures ∙ c.if-prune.true in
-    let done = done_so query table c.head_tells_law.ensures c.plan_over_law.ensures c.requires.of_table.valid c.requires.of_table.query a.held name head c.nothing.result.plan c.nothing.result.docs
+    let done = done_so query table c.head_tells_law.ensures c.plan_over_law.ensures c.requires.of_table.valid c.requires.of_table.query a.held segment head c.nothing.result.plan c.nothing.result.docs
     (c.nothing.ensures.plan ∙ pruned_planned query table head is) (inl is) (none_looked query table a.held head c.nothing.result.plan Pruned c.nothing.result.docs c.nothing.ensures.plan (λ rows. refl) c.nothing.ensures.none) c.in-Ok.ensures.opened.image in
     record {
       adds = record {
-        added = adds_none query table name head c.head_tells_law.ensures c.requires.of_table.valid a.held c.args.groups.now c.requires.room.of_query (λ rows tells. c.pruned_law.ensures query table rows head tells is) c.in-Ok.ensures.opened.image;
+        added = adds_none query table segment head c.head_tells_law.ensures c.requires.of_table.valid a.held c.args.groups.now c.requires.room.of_query (λ rows tells. c.pruned_law.ensures query table rows head tells is) c.in-Ok.ensures.opened.image;
         full = λ fault. absurd (no_fault _ _ engine.TooManyGroups fault);
         bad = λ part fault. absurd (no_fault _ _ (engine.NotASegment part) fault);
         only_reads = reads_done _ _ head _ engine.ReadFault a b c.in-Ok.ensures.looks.only_reads;
-        log = head_in table name a.held a.log b.log c.in-Ok.ensures.looks.log;
-        reads = quiet_one query table name a.held c.nothing.result.plan c.nothing.result.docs a.log b.log done (inl c.nothing.ensures.plan) (opened_one query table name c.requires.of_table.valid c.requires.of_table.name a.held a.log b.log c.in-Ok.ensures.looks.log);
+        log = head_in table segment a.held a.log b.log c.in-Ok.ensures.looks.log;
+        reads = quiet_one query table segment a.held c.nothing.result.plan c.nothing.result.docs a.log b.log done (inl c.nothing.ensures.plan) (opened_one query table segment c.requires.of_table.valid c.requires.of_table.name a.held a.log b.log c.in-Ok.ensures.looks.log);
         reads_of_fault = tt;
       };
       opens = c.in-Ok.ensures.opened.opening;
@@ -95,25 +95,25 @@ returns-in-Err-load_wanted g c =
     let d : Seen = seen g.S.Shelf c.load_wanted.new.shelf in
     let query = c.args.query.now in
     let table = c.args.table.now in
-    let name = c.args.name.now in
+    let segment = c.args.segment.now in
     let head = c.in-Ok.head in
     let fault = c.in-Err-load_wanted.fault in
     let same = c.in-Ok.ensures.looks.only_reads.held in
-    let opened = head_in table name a.held a.log b.log c.in-Ok.ensures.looks.log in
-    let loaded = loaded_in table name head b.log d.log c.in-Ok.ensures.opened.of c.in-Ok.ensures.opened.placed c.in-Err-load_wanted.ensures.loads.log in
+    let opened = head_in table segment a.held a.log b.log c.in-Ok.ensures.looks.log in
+    let loaded = loaded_in table segment head b.log d.log c.in-Ok.ensures.opened.of c.in-Ok.ensures.opened.placed c.in-Err-load_wanted.ensures.loads.log in
     record {
       adds = record {
         added = tt;
         full = λ is. absurd (c.in-Err-load_wanted.ensures.loads.never_full (ap Err (own_fault _ fault engine.TooManyGroups is)));
         bad = λ part is.
-            subst (λ held. IfSome held (λ files. HasNoImage table files name)) same
-            (c.in-Err-load_wanted.ensures.loads.bad part (ap Err (own_fault _ fault (engine.NotASegment part) is)) name (subst (λ held. IsHeadIn table held name head) (sym same) c.in-Ok.ensures.opened.image));
+            subst (λ held. IfSome held (λ files. HasNoImage table files segment)) same
+            (c.in-Err-load_wanted.ensures.loads.bad part (ap Err (own_fault _ fault (engine.NotASegment part) is)) segment (subst (λ held. IsHeadIn table held segment head) (sym same) c.in-Ok.ensures.opened.image));
         only_reads = reads_then a b d (reads_still _ head engine.ReadFault a b c.in-Ok.ensures.looks.only_reads) (reads_failed _ _ fault engine.ReadFault b d c.in-Err-load_wanted.ensures.loads.only_reads);
-        log = logs_then (λ other. other ≡ file_of name) a.log b.log d.log opened loaded;
+        log = logs_then (λ other. other ≡ segment.file) a.log b.log d.log opened loaded;
         reads = tt;
-        reads_of_fault = given_up query table name c.docs_bound_law.ensures.bound c.requires.of_table.valid a.held a.log d.log
-            (heads_then query table name a.held a.log b.log d.log opened loaded
-            (opened_one query table name c.requires.of_table.valid c.requires.of_table.name a.held a.log b.log c.in-Ok.ensures.looks.log) (loaded_one query table name a.held head b.log d.log c.in-Ok.ensures.opened.placed c.in-Ok.ensures.opened.spread c.in-Err-load_wanted.ensures.loads.log));
+        reads_of_fault = given_up query table segment c.docs_bound_law.ensures.bound c.requires.of_table.valid a.held a.log d.log
+            (heads_then query table segment a.held a.log b.log d.log opened loaded
+            (opened_one query table segment c.requires.of_table.valid c.requires.of_table.name a.held a.log b.log c.in-Ok.ensures.looks.log) (loaded_one query table segment a.held head b.log d.log c.in-Ok.ensures.opened.placed c.in-Ok.ensures.opened.spread c.in-Err-load_wanted.ensures.loads.log));
       };
       opens = tt;
       done = tt;
@@ -127,35 +127,35 @@ returns g c =
     let e : Seen = seen g.S.Shelf c.add_planned.new.shelf in
     let query = c.args.query.now in
     let table = c.args.table.now in
-    let name = c.args.name.now in
+    let segment = c.args.segment.now in
     let head = c.in-Ok.head in
     let full = c.load_wanted.new.head in
     let same = c.in-Ok-load_wanted.ensures.loads.only_reads.held ∙ c.in-Ok.ensures.looks.only_reads.held in
-    let later = image_later table name a.held b.held d.held head full c.in-Ok.ensures.looks.only_reads.held c.in-Ok-load_wanted.ensures.loads.only_reads.held c.in-Ok-load_wanted.ensures.loads.grows c.in-Ok.ensures.opened.image in
-    let spread : IsSpreadIn table d.held name full = subst (λ h. IsSpreadIn table h name full) (sym same) (spread_later table a.held name head full c.in-Ok-load_wanted.ensures.loads.grows.sections_same c.in-Ok.ensures.opened.spread) in
-    let opened = head_in table name a.held a.log b.log c.in-Ok.ensures.looks.log in
-    let loaded = loaded_in table name head b.log d.log c.in-Ok.ensures.opened.of c.in-Ok.ensures.opened.placed c.in-Ok-load_wanted.ensures.loads.log in
-    let first = logs_then (λ other. other ≡ file_of name) a.log b.log d.log opened loaded in
-    let heads = heads_then query table name a.held a.log b.log d.log opened loaded
-    (opened_one query table name c.requires.of_table.valid c.requires.of_table.name a.held a.log b.log c.in-Ok.ensures.looks.log) (loaded_one query table name a.held head b.log d.log c.in-Ok.ensures.opened.placed c.in-Ok.ensures.opened.spread c.in-Ok-load_wanted.ensures.loads.log) in
-    let placed : AreIn (file_of name) full.sections = subst (AreIn (file_of name)) (sym c.in-Ok-load_wanted.ensures.loads.grows.sections_same) c.in-Ok.ensures.opened.placed in
-    let adds = c.add_planned.ensures.adds name later spread placed in
+    let later = image_later table segment a.held b.held d.held head full c.in-Ok.ensures.looks.only_reads.held c.in-Ok-load_wanted.ensures.loads.only_reads.held c.in-Ok-load_wanted.ensures.loads.grows c.in-Ok.ensures.opened.image in
+    let spread : IsSpreadIn table d.held segment full = subst (λ h. IsSpreadIn table h segment full) (sym same) (spread_later table a.held segment head full c.in-Ok-load_wanted.ensures.loads.grows.sections_same c.in-Ok.ensures.opened.spread) in
+    let opened = head_in table segment a.held a.log b.log c.in-Ok.ensures.looks.log in
+    let loaded = loaded_in table segment head b.log d.log c.in-Ok.ensures.opened.of c.in-Ok.ensures.opened.placed c.in-Ok-load_wanted.ensures.loads.log in
+    let first = logs_then (λ other. other ≡ segment.file) a.log b.log d.log opened loaded in
+    let heads = heads_then query table segment a.held a.log b.log d.log opened loaded
+    (opened_one query table segment c.requires.of_table.valid c.requires.of_table.name a.held a.log b.log c.in-Ok.ensures.looks.log) (loaded_one query table segment a.held head b.log d.log c.in-Ok.ensures.opened.placed c.in-Ok.ensures.opened.spread c.in-Ok-load_wanted.ensures.loads.log) in
+    let placed : AreIn segment.file full.sections = subst (AreIn segment.file) (sym c.in-Ok-load_wanted.ensures.loads.grows.sections_same) c.in-Ok.ensures.opened.placed in
+    let adds = c.add_planned.ensures.adds segment later spread placed in
     record {
       adds = record {
-        added = subst (λ h. OnOk c.add_planned.result (AddsStored query table h name c.args.groups.now c.add_planned.new.groups)) same adds.added;
-        full = λ is. subst (λ h. IsStoredOverfull query table h name c.args.groups.now) same (adds.full is);
-        bad = λ part is. subst (λ h. IfSome h (λ files. HasNoImage table files name)) same (adds.bad part is);
+        added = subst (λ h. OnOk c.add_planned.result (AddsStored query table h segment c.args.groups.now c.add_planned.new.groups)) same adds.added;
+        full = λ is. subst (λ h. IsStoredOverfull query table h segment c.args.groups.now) same (adds.full is);
+        bad = λ part is. subst (λ h. IfSome h (λ files. HasNoImage table files segment)) same (adds.bad part is);
         only_reads = reads_then a d e
             (reads_then a b d (reads_still _ head engine.ReadFault a b c.in-Ok.ensures.looks.only_reads) (reads_still _ tt engine.ReadFault b d c.in-Ok-load_wanted.ensures.loads.only_reads))
             adds.only_reads;
-        log = logs_then (λ other. other ≡ file_of name) a.log d.log e.log first adds.log;
-        reads = ok_so c.add_planned.result (LogsOne (ReadsPlanned query table true) table d.held name d.log e.log) (LogsOne (ReadsPlanned query table true) table a.held name a.log e.log)
-            (λ reads. headed_one query table name true a.held a.log d.log e.log first adds.log heads (subst (λ h. LogsOne (ReadsPlanned query table true) table h name d.log e.log) same reads)) adds.reads;
-        reads_of_fault = err_so c.add_planned.result (LogsOne (ReadsPlanned query table false) table d.held name d.log e.log) (LogsOne (ReadsPlanned query table false) table a.held name a.log e.log)
-            (λ reads. headed_one query table name false a.held a.log d.log e.log first adds.log heads (subst (λ h. LogsOne (ReadsPlanned query table false) table h name d.log e.log) same reads)) adds.reads_of_fault;
+        log = logs_then (λ other. other ≡ segment.file) a.log d.log e.log first adds.log;
+        reads = ok_so c.add_planned.result (LogsOne (ReadsPlanned query table true) table d.held segment d.log e.log) (LogsOne (ReadsPlanned query table true) table a.held segment a.log e.log)
+            (λ reads. headed_one query table segment true a.held a.log d.log e.log first adds.log heads (subst (λ h. LogsOne (ReadsPlanned query table true) table h segment d.log e.log) same reads)) adds.reads;
+        reads_of_fault = err_so c.add_planned.result (LogsOne (ReadsPlanned query table false) table d.held segment d.log e.log) (LogsOne (ReadsPlanned query table false) table a.held segment a.log e.log)
+            (λ reads. headed_one query table segment false a.held a.log d.log e.log first adds.log heads (subst (λ h. LogsOne (ReadsPlanned query table false) table h segment d.log e.log) same reads)) adds.reads_of_fault;
       };
       opens = on_ok c.add_planned.result c.in-Ok.ensures.opened.opening;
-      done = subst (λ h. IfOk c.add_planned.result (λ done. IsDoneIn query table h name done.plan done.docs)) same
-          (found_so c.add_planned.result (λ done. (name : List ℕ) → IsHeadIn table d.held name full → IsDoneIn query table d.held name done.plan done.docs) (λ done. IsDoneIn query table d.held name done.plan done.docs)
-          (λ done is. is name later) c.add_planned.ensures.done);
+      done = subst (λ h. IfOk c.add_planned.result (λ done. IsDoneIn query table h segment done.plan done.docs)) same
+          (found_so c.add_planned.result (λ done. (segment : Stored) → IsHeadIn table d.held segment full → IsDoneIn query table d.held segment done.plan done.docs) (λ done. IsDoneIn query table d.held segment done.plan done.docs)
+          (λ done is. is segment later) c.add_planned.ensures.done);
     }

@@ -1,34 +1,73 @@
-use Rattle.std.proofs.Common.{◌≡◌, ◌∙◌, ℕ, List, Ok, Err, IfSome, sym, ap}
+use Rattle.std.proofs.Common.{◌≡◌, ◌∙◌, ℕ, List, map, Ok, Err, IfOk, IfSome, OnOk, sym, ap, subst}
+use Rattle.segment_head.specs.Stored.{live}
+use Rattle.segment_head.specs.declared.stored.Stored.{Stored}
+use Rattle.sql_reply.specs.declared.fault.SqlFault.TheVariants.{NoMemory}
+use Rattle.query_executor.specs.Passes.{HaveOpenings, TextReads}
+use Rattle.query_executor.specs.declared.fault.ExecutorFault.TheVariants.{Sql}
 use Rattle.query_executor.specs.Stated.{IsStated, IsBoundStated}
-use Rattle.query_executor.proofs.ReplyLemmas.{text_real}
-use Rattle.query_executor.proofs.EndLemmas.{found_so}
+use Rattle.query_executor.proofs.ReplyLemmas.{over_live, text_real}
+use Rattle.query_executor.proofs.EndLemmas.{fault_if, fault_ok, found_so, gives_fault, memory_refused}
 use Rattle.query_executor.proofs.StatedLemmas.{stated_fault, stated_so, unasked_stated}
-use Rattle.outside.specs.Seen.{seen}
-use Rattle.query_executor.proofs.PassLemmas.{pass_of_text, text_unread}
+use Rattle.outside.specs.Seen.{Seen, seen}
+use Rattle.query_executor.proofs.PassLemmas.{pass_of_text, pass_unread, text_unread}
 use Rattle.query_executor.proofs.stats.stats_query.Goals as goal
+
+pub stats_of_bound-requires : goal.stats_of_bound-requires
+stats_of_bound-requires g c = record { of_table = over_live c.args.table.now c.args.names.now c.as_slice.result.now (c.as_slice.ensures.value ∙ c.in_ok-stored.ensures) c.requires; query = c.in-Ok.ensures.valid }
 
 pub returns-in-Ok-clause-reply : goal.returns-in-Ok-clause-reply
 returns-in-Ok-clause-reply g c =
     let table = c.args.table.now in
-    let names : List (List ℕ) = c.args.names.now in
+    let stored : List Stored = c.as_slice.result.now in
     let held = g.S.Shelf.held c.args.shelf.now in
-    found_so c.stats_of_bound.result
-    (λ text. IfSome held (λ files. IsBoundStated table files names c.in-Ok.bound text))
-    (λ text. IfSome held (λ files. IsStated table files names c.args.sql.now (Ok text)))
-    (stated_so c.in-Ok.bound table names c.args.sql.now c.in-Ok.ensures.asked c.in-Ok.ensures.reply held)
-    c.stats_of_bound.ensures.reply
+    subst (λ l. IfOk c.stats_of_bound.result (λ text. IfSome held (λ files. IsStated table files l c.args.sql.now (Ok text)))) (c.as_slice.ensures.value ∙ c.in_ok-stored.ensures)
+    (found_so c.stats_of_bound.result
+    (λ text. IfSome held (λ files. IsBoundStated table files stored c.in-Ok.bound text))
+    (λ text. IfSome held (λ files. IsStated table files stored c.args.sql.now (Ok text)))
+    (stated_so c.in-Ok.bound table stored c.args.sql.now c.in-Ok.ensures.asked c.in-Ok.ensures.reply held)
+    c.stats_of_bound.ensures.reply)
 
 pub returns-in-Ok-clause-refused : goal.returns-in-Ok-clause-refused
 returns-in-Ok-clause-refused g c = λ fault is real.
-    stated_fault c.in-Ok.bound c.args.table.now c.args.names.now c.args.sql.now c.in-Ok.ensures.asked c.in-Ok.ensures.reply (g.S.Shelf.held c.args.shelf.now) fault (c.stats_of_bound.ensures.refused fault is real).1
+    let table = c.args.table.now in
+    let stored : List Stored = c.as_slice.result.now in
+    let held = g.S.Shelf.held c.args.shelf.now in
+    subst (λ l. IfSome held (λ files. IsStated table files l c.args.sql.now (Err fault))) (c.as_slice.ensures.value ∙ c.in_ok-stored.ensures)
+    (stated_fault c.in-Ok.bound table stored c.args.sql.now c.in-Ok.ensures.asked c.in-Ok.ensures.reply held fault (c.stats_of_bound.ensures.refused fault is real).1)
 
 pub returns-in-Ok-clause-of_text : goal.returns-in-Ok-clause-of_text
 returns-in-Ok-clause-of_text g c = λ fault is text. absurd ((c.stats_of_bound.ensures.refused fault is (text_real fault text)).0 text)
 
+pub returns-in-Ok-clause-opens : goal.returns-in-Ok-clause-opens
+returns-in-Ok-clause-opens g c =
+    subst (λ l. OnOk c.stats_of_bound.result (HaveOpenings c.args.table.now (g.S.Shelf.held c.args.shelf.now) l)) (c.as_slice.ensures.value ∙ c.in_ok-stored.ensures) c.stats_of_bound.ensures.opens
+
+pub returns-in-Ok-clause-passes : goal.returns-in-Ok-clause-passes
+returns-in-Ok-clause-passes g c =
+    let a : Seen = seen g.S.Shelf c.args.shelf.now in
+    let b : Seen = seen g.S.Shelf c.stats_of_bound.new.shelf in
+    subst (λ l. TextReads c.args.table.now l c.args.sql.now a b c.stats_of_bound.result) (c.as_slice.ensures.value ∙ c.in_ok-stored.ensures)
+    (pass_of_text c.in-Ok.bound c.args.table.now c.as_slice.result.now c.args.sql.now c.in-Ok.ensures.asked _ c.stats_of_bound.result a b c.stats_of_bound.ensures.passes)
+
+pub returns-in_err-stored : goal.returns-in_err-stored
+returns-in_err-stored g c =
+    let table = c.args.table.now in
+    let stored : List Stored = map live c.args.names.now in
+    let a : Seen = seen g.S.Shelf c.args.shelf.now in
+    let r = c.from_residual.result in
+    let is = gives_fault _ r (Sql NoMemory) c.from_residual.ensures.1 in
+    record {
+      reply = fault_if _ r (Sql NoMemory) _ is;
+      refused = λ fault e real. absurd (memory_refused _ r fault is e real);
+      of_text = λ fault e text. absurd (memory_refused _ r fault is e (text_real fault text));
+      opens = fault_ok _ r (Sql NoMemory) (HaveOpenings table a.held stored) is;
+      passes = pass_of_text c.in-Ok.bound table stored c.args.sql.now c.in-Ok.ensures.asked _ r a a (pass_unread c.in-Ok.bound table stored c.docs_bound_law.ensures.bound c.requires.valid _ r a is);
+    }
+
 pub returns-in-Err-clause-refused : goal.returns-in-Err-clause-refused
 returns-in-Err-clause-refused g c = λ fault is real.
     let same : c.in-Err.fault ≡ fault = cc in
-    unasked_stated c.args.table.now c.args.names.now c.args.sql.now fault (c.in-Err.ensures.asked (λ e. real (sym same ∙ e)) ∙ ap Err same)
+    unasked_stated c.args.table.now (map live c.args.names.now) c.args.sql.now fault (c.in-Err.ensures.asked (λ e. real (sym same ∙ e)) ∙ ap Err same)
     (λ rows. c.in-Err.ensures.err rows (λ e. real (sym same ∙ e)) ∙ ap Err same) (g.S.Shelf.held c.args.shelf.now)
 
 pub returns-in-Err-clause-of_text : goal.returns-in-Err-clause-of_text
@@ -36,9 +75,5 @@ returns-in-Err-clause-of_text g c = λ fault is text.
     let same : c.in-Err.fault ≡ fault = cc in
     c.in-Err.ensures.asked (λ e. text_real fault text (sym same ∙ e)) ∙ ap Err same
 
-pub returns-in-Ok-clause-passes : goal.returns-in-Ok-clause-passes
-returns-in-Ok-clause-passes g c =
-    pass_of_text c.in-Ok.bound c.args.table.now c.args.names.now c.args.sql.now c.in-Ok.ensures.asked _ c.stats_of_bound.result (seen g.S.Shelf c.args.shelf.now) (seen g.S.Shelf c.stats_of_bound.new.shelf) c.stats_of_bound.ensures.passes
-
 pub returns-in-Err-clause-passes : goal.returns-in-Err-clause-passes
-returns-in-Err-clause-passes g c = text_unread c.docs_bound_law.ensures.bound c.args.table.now c.requires.valid c.args.names.now c.args.sql.now _ c.in-Err.fault (seen g.S.Shelf c.args.shelf.now)
+returns-in-Err-clause-passes g c = text_unread c.docs_bound_law.ensures.bound c.args.table.now c.requires.valid (map live c.args.names.now) c.args.sql.now _ c.in-Err.fault (seen g.S.Shelf c.args.shelf.now)

@@ -3,8 +3,9 @@ use Rattle.outside.specs.Seen.{Seen, seen}
 use Rattle.segment_head.specs.Heads.{AreIn}
 use Rattle.segment_reads.specs.Logs.{EndsBy}
 use Rattle.segment_head.specs.Stored.{HasNoImage}
+use Rattle.segment_opening.specs.Calls.{FailsColumn}
 use Rattle.segment_opening.specs.Opened.{Grows, IsHeadIn}
-use Rattle.segment_opening.proofs.HeadLemmas.{grows_none, grows_then, loaded_more}
+use Rattle.segment_opening.proofs.HeadLemmas.{fails_before, grows_none, grows_then, loaded_more}
 use Rattle.segment_reads.proofs.LogLemmas.{ends_still, entries_none, entries_then, reads_as, reads_none, reads_then}
 use Rattle.segment_opening.proofs.loading.load_marked.Goals as goal
 
@@ -47,6 +48,9 @@ returns-in-Err-clause-loads g c =
       bad = λ part is name in_file.
           subst (λ held. IfSome held (λ files. HasNoImage table files name)) held
           (c.in-Err.ensures.loads.bad part is name (subst (λ held. IsHeadIn table held name c.columns.head) (sym held) (c.columns.invariant.grows.image name in_file)));
+      named = λ part is.
+          fails_before table a.held c.args.head.now c.columns.head part c.columns.invariant.grows.rows_same same
+          (subst (λ held. FailsColumn table held c.columns.head part) held (c.in-Err.ensures.loads.named part is));
       never_full = c.in-Err.ensures.loads.never_full;
       only_reads = reads_then a b d c.columns.invariant.reads c.in-Err.ensures.loads.only_reads;
       log = λ file end within ends.
@@ -61,6 +65,7 @@ pub returns-clause-loads : goal.returns-clause-loads
 returns-clause-loads g c = record {
   grows = c.columns.invariant.grows;
   bad = λ part is. absurd cc;
+  named = λ part is. absurd cc;
   never_full = λ is. cc;
   only_reads = reads_as (seen g.S.Shelf c.args.shelf.now) (seen g.S.Shelf c.columns.shelf) c.columns.invariant.reads (λ e. absurd cc) (λ e. absurd e);
   log = c.columns.invariant.log;

@@ -80,3 +80,12 @@ pub returns-then-is_some-clause-loads : goal.returns-then-is_some-clause-loads
 returns-then-is_some-clause-loads g c =
     let (d, at) = present c.loaded.result _ _ c.if-is_some.ensures c.loaded.ensures in
     same_loads c.args.self.now c.args.column d.now at
+
+pub returns-then-is_some-clause-part : goal.returns-then-is_some-clause-part
+returns-then-is_some-clause-part g c = tt
+
+pub returns-clause-part : goal.returns-clause-part
+returns-clause-part g c = tt
+
+pub returns-in-Err-clause-part : goal.returns-in-Err-clause-part
+returns-in-Err-clause-part g c = c.in-Err.ensures.part
