@@ -1,5 +1,5 @@
 //! Lines without quotes, read straight from a text.
-ghost use Rattle.std.specs.Prelude.{◌≡◌, ◌≤◌, ℕ, List, false, IfOk, IfSome, OnOk};
+ghost use Rattle.std.specs.Prelude.{◌≡◌, ◌≤◌, ◌<◌, ◌^◌, ℕ, List, false, length, IfOk, IfSome, OnOk};
 ghost use Rattle.std.specs.List.{All};
 ghost use Rattle.values.specs.Columns.{Counts};
 ghost use Rattle.csv_row.specs.Columns.{OfSorts};
@@ -16,8 +16,11 @@ use csv_row::Layout;
 use std::alloc::{AllocError, Global};
 use values::{Column, Columns};
 
-// So many bytes are looked at together.
+// So many bytes are looked at together, and those after them up to the end of a line, if there are
+// no more than so many.
 const PART_BYTES: usize = 49_152;
+
+const MOST_AFTER: usize = 1_048_576;
 
 /// Some rows of a text, and how many of its bytes they are.
 #[derive(Drop)]
@@ -100,8 +103,23 @@ pub fn mark_part(text: &[u8], places: &mut Vec<u32>) -> Result<(), AllocError>
     ensures { OnOk result (AreMarks text.now places.new.items) }
 {
     places.clear();
-    push_separators(&text[..text.len().min(PART_BYTES)], places)?;
+    push_separators(&text[..part_len(text)], places)?;
     Ok(())
+}
+
+// How many bytes the next part of a text has.
+fn part_len(text: &[u8]) -> usize
+    ensures within { result ≤ length text.now }
+    ensures few { result < 2 ^ 32 }
+{
+    let start = text.len().min(PART_BYTES);
+    let end = text.len().min(PART_BYTES + MOST_AFTER);
+    'bytes: for i in start..end {
+        if text[i] == b'\n' {
+            return i + 1;
+        }
+    }
+    start
 }
 
 /// Whether a line has no character.
