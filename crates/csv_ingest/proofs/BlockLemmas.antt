@@ -11,7 +11,8 @@ use Rattle.csv_row.specs.declared.fault.CsvFault.{CsvFault}
 use Rattle.csv_row.specs.declared.fault.CsvFault.TheVariants.{NoMemory}
 use Rattle.csv_ingest.specs.declared.rows.Block.{Block}
 use Rattle.csv_row.specs.InOrder.{after, all_or_first}
-use Rattle.csv_ingest.specs.Blocks.{IsBlock, IsFullBlock, IsLastBlock, RowsOrFault, rows_from}
+use Rattle.csv_ingest.specs.declared.rows.Added.{Added}
+use Rattle.csv_ingest.specs.Blocks.{AddsBlock, IsBlock, IsFullBlock, IsLastBlock, RowsOrFault, rows_from}
 use Rattle.csv_ingest.specs.Reading.{Reads, TextReader, records_left}
 use Rattle.csv_row.specs.Row.{csv_limits, row_at}
 use Rattle.csv_ingest.specs.Rows.{rows_of}
@@ -65,9 +66,44 @@ module _ (fields : List Field) (header : List (List ℕ)) (before i : ℕ) (old 
         ∙ ap (λ records. after done (rows_from (before + i) fields header records)) (next (n - (i + 1)))
         ∙ after-fault done (row_at csv_limits fields header (1 + (before + i), cells)) (all_or_first (map (row_at csv_limits fields header) (enumerate_from (1 + (before + i) + 1) (records_left (n - (i + 1)) new left)))) fault bad
 
+-- rows that were added to columns without any are a block
+pub block-added : (fields : List Field) (header : List (List ℕ)) (before room : ℕ) (old new : TextReader) (rest : List ℕ) (held more : List Listed) (added : Added) (table : ListedColumns) → All (Counts 0) held
+    → table ≡ record { columns = more; count = added.count } → AddsBlock fields header before room old new rest held more added
+    → MatchBool added.last (IsLastBlock fields header before room old rest table) (IsFullBlock fields header before room old new rest table)
+block-added fields header before room old new rest held more added table counts is a =
+    subst (λ t. MatchBool added.last (IsLastBlock fields header before room old rest t) (IsFullBlock fields header before room old new rest t)) (sym is) (by added.last a.is)
+  where
+    none : 0 + added.count ≡ added.count
+    none = omega arith
+
+    same : a.rows ≡ rows_in_columns added.count more
+    same = ap (λ front. front ++ a.rows) (sym (no-rows held counts)) ∙ sym (a.pushed 0 counts) ∙ ap (λ n. rows_in_columns n more) none
+
+    by : (last : Bool)
+        → MatchBool last ((added.count < room) × ((n : ℕ) → added.count < n → rows_from before fields header (records_left n old rest) ≡ Ok a.rows)) ((added.count ≡ room) × IsBlock fields header before added.count old new rest a.rows)
+        → MatchBool last (IsLastBlock fields header before room old rest (record { columns = more; count = added.count })) (IsFullBlock fields header before room old new rest (record { columns = more; count = added.count }))
+    by true m = record { at_most = m.0; all = λ n lt. m.1 n lt ∙ ap Ok same }
+    by false m = record { full = m.0; block = subst (IsBlock fields header before added.count old new rest) same m.1 }
+
 none_left : (n : ℕ) (reader : TextReader) (rest : List ℕ) → n ≡ 0 → records_left n reader rest ≡ []
 unfolding records_from
 none_left n reader rest e = ap (λ k. records_left k reader rest) e
+
+-- rows that were added where there was room for all records are all rows
+pub added-rows : (fields : List Field) (header : List (List ℕ)) (before room : ℕ) (old new : TextReader) (rest : List ℕ) (held more : List Listed) (added : Added) (a : AddsBlock fields header before room old new rest held more added)
+    → rows_from before fields header (records_left room old rest) ≡ Ok a.rows
+added-rows fields header before room old new rest held more added a = by added.last a.is
+  where
+    by : (last : Bool)
+        → MatchBool last ((added.count < room) × ((n : ℕ) → added.count < n → rows_from before fields header (records_left n old rest) ≡ Ok a.rows)) ((added.count ≡ room) × IsBlock fields header before added.count old new rest a.rows)
+        → rows_from before fields header (records_left room old rest) ≡ Ok a.rows
+    by true m = m.1 room m.0
+    by false m =
+        let all : 0 + added.count ≡ room = omega (arith, m.0) in
+        ap (λ k. rows_from before fields header (records_left k old rest)) (sym all)
+        ∙ m.1.each 0
+        ∙ ap (λ records. after a.rows (rows_from (before + added.count) fields header records)) (none_left 0 new m.1.left refl)
+        ∙ after-all a.rows
 
 -- a block with room for all records has all rows
 pub whole-block : (fields : List Field) (header : List (List ℕ)) (most : ℕ) (old new : TextReader) (rest : List ℕ) (columns : ListedColumns) (last : Bool)

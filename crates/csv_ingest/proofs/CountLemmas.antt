@@ -51,3 +51,9 @@ pub cells-count : (reader : TextReader) (rest : List ℕ) (fields : List (List �
 unfolding records_from
 cells-count reader rest fields more e =
     first_count rest fields more (records_from default_config 0) (next_record default_config (reader_state reader) [] [] rest) (λ p so. let at_most = count (reader_state reader) [] [] rest p so in omega (arith, at_most)) e
+
+-- the same of the first record of a text
+pub first-count : (text : List ℕ) (fields : List (List ℕ)) (more : List (List (List ℕ))) → records_from default_config 1 st.StartRecord text ≡ fields ∷ more → length fields ≤ length text + 1
+unfolding records_from
+first-count text fields more e =
+    first_count text fields more (records_from default_config 0) (next_record default_config st.StartRecord [] [] text) (λ p so. let at_most = count st.StartRecord [] [] text p so in omega (arith, at_most)) e

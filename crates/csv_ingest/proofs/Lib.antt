@@ -3,6 +3,7 @@ mod CountLemmas
 mod HeaderLemmas
 mod HeaderLine
 mod LineBlocks
+mod LineColumns
 mod MarkLemmas
 mod MarkedLines
 mod NumberLemmas

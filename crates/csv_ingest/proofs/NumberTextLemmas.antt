@@ -1,5 +1,5 @@
 -- The columns and rows of a list of records.
-use Rattle.std.proofs.Common.{◌≡◌, ◌∙◌, ◌<◌, ◌≤◌, ◌+◌, ℕ, List, [], ◌∷◌, length, nat_lt, true, false, Result, Ok, Err, IfOk, IfErr, refl, sym, ap, arith}
+use Rattle.std.proofs.Common.{◌≡◌, ◌∙◌, ◌<◌, ◌≤◌, ◌+◌, ℕ, List, [], ◌∷◌, length, nat_lt, true, false, Result, Ok, Err, IfOk, IfErr, IfSome, Option, Some, None, refl, sym, ap, arith}
 use Rattle.std.proofs.lemmas.Bool.Decides.{nat_tests}
 use Rattle.csv.specs.Records.{fields_of}
 use Rattle.table_schema.specs.declared.field.Field.{Field}
@@ -17,6 +17,10 @@ use Rattle.csv_ingest.specs.Rows.{header_of, number_rows_in, rows_of, under, wit
 pub ok-at : {T E : Type 0} (r : Result T E) (P Q : T → Type 0) → ((t : T) → P t → Q t) → IfOk r P → IfOk r Q
 ok-at (Ok t) P Q f p = f t p
 ok-at (Err e) P Q f p = tt
+
+pub some-at : {T : Type 0} (o : Option T) (P Q : T → Type 0) → ((t : T) → P t → Q t) → IfSome o P → IfSome o Q
+some-at None P Q f p = tt
+some-at (Some t) P Q f p = f t p
 
 pub err-at : {T E : Type 0} (r : Result T E) (P Q : E → Type 0) → ((e : E) → P e → Q e) → IfErr r P → IfErr r Q
 err-at (Ok t) P Q f p = tt

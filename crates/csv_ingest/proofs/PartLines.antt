@@ -1,7 +1,7 @@
 -- The rows of the records that the lines of a part are.
 use Rattle.std.proofs.Common.{◌≡◌, ◌∙◌, ◌<◌, ◌≤◌, ◌+◌, ◌-◌, ◌*◌, ◌++◌, ◌==◌, ℕ, zero, suc, pos, List, [], ◌∷◌, length, map, drop, get_or, Bool, false, not, nat_lt, if◌then◌else◌, Option, Some, None, Result, Ok, Err, refl, sym, ap, ap₂, subst, arith, length-append}
 use Rattle.std.proofs.lemmas.Bool.Decides.{nat_tests}
-use Rattle.std.proofs.lemmas.List.{get_or-append-add, get_or-map, length-map, length-replicate, replicate-append-replicate}
+use Rattle.std.proofs.lemmas.List.{drop-drop, get_or-append-add, get_or-map, length-drop, length-map, length-replicate, replicate-append-replicate}
 use Rattle.std.proofs.lemmas.List.Elements.{All-head, All-tail}
 use Rattle.std.proofs.Math.Seq.{drop-cons}
 use Rattle.std.specs.List.{All, enumerate_from}
@@ -22,7 +22,7 @@ use Rattle.csv_row.specs.Row.{csv_limits, place_of, placed, row_at, value_at}
 use Rattle.csv_row.specs.declared.fault.CsvFault.{CsvFault}
 use Rattle.csv_row.specs.declared.layout.Layout.{Layout}
 use Rattle.csv_ingest.specs.Blocks.{RowsOrFault, rows_from}
-use Rattle.csv_ingest.specs.Lines.{AreLines}
+use Rattle.csv_ingest.specs.Lines.{AreLines, AtLineEnd}
 use Rattle.csv_ingest.specs.Names.{number_field}
 use Rattle.csv_ingest.specs.Parts.{AddsPart, IsPart, ReadsPart, field_value, line_cells, mark_at}
 use Rattle.csv_ingest.specs.declared.parts.Part.{Part}
@@ -273,3 +273,21 @@ part-lines fields header before text old new rows taken table r counts room is =
           after-none all ∙ ap (λ front. after front all) (sym (no-rows old counts)) ∙ r.each 0 before n counts room
           ∙ ap (λ k. after (rows_in_columns k new) (rows_from (before + rows) fields header (records_from default_config n st.StartRecord (drop taken text)))) same;
     })
+
+-- a part more
+pub lines-more : (fields : List Field) (header : List (List ℕ)) (text : List ℕ) (old new : List Listed) (c taken rows len : ℕ) → AreLines fields header 0 text (record { columns = old; count = c }) taken
+    → ReadsPart fields header (drop taken text) old new rows len → All (Counts c) old → c + rows ≤ most_rows (length fields) → AreLines fields header 0 text (record { columns = new; count = c + rows }) (taken + len)
+lines-more fields header text old new c taken rows len a r counts room =
+    let left : drop len (drop taken text) ≡ drop (taken + len) text = drop-drop len taken text in
+    record {
+      within = omega (arith, a.within, r.within, length-drop taken text);
+      at_end = λ _. subst AtLineEnd left r.at_end;
+      each = λ n.
+          let split : n + (c + rows) ≡ n + rows + c = omega arith in
+          let number : 0 + c + rows ≡ 0 + (c + rows) = omega arith in
+          let first : 0 + c + rows ≤ most_rows (length fields) = omega (arith, room) in
+          ap (λ k. rows_from 0 fields header (records_from default_config k st.StartRecord text)) split
+          ∙ a.each (n + rows)
+          ∙ r.each c (0 + c) n counts first
+          ∙ ap₂ (λ k t. after (rows_in_columns (c + rows) new) (rows_from k fields header (records_from default_config n st.StartRecord t))) number left;
+    }

@@ -1,5 +1,5 @@
 -- The rows of a list of records over the fields of a table.
-use Rattle.std.proofs.Common.{◌≡◌, ℕ, List, [], ◌∷◌, Result, Ok, Err, IsOk, refl, ap}
+use Rattle.std.proofs.Common.{◌≡◌, ◌∙◌, ℕ, List, [], ◌∷◌, Result, Ok, Err, IsOk, refl, sym, ap}
 use Rattle.table_schema.specs.declared.field.Field.{Field}
 use Rattle.csv_row.specs.declared.fault.CsvKind.TheVariants.{NoHeader}
 use Rattle.csv_row.specs.declared.fault.CsvFault.{CsvFault}
@@ -24,3 +24,10 @@ passed (Err e) rest ok = absurd cc
 pub good-names : (fields : List Field) (header : List (List ℕ)) (rows : List (List (List ℕ))) → IsOk (header_of (schema_name fields) header) → rows_in csv_limits fields (header ∷ rows) ≡ rows_of csv_limits fields header rows
 unfolding rows_in
 good-names fields header rows ok = passed (header_of (schema_name fields) header) (rows_of csv_limits fields header rows) ok
+
+-- the rows below a first line, under the names that are there
+pub below-line : (fields fields' : List Field) (header header' : List (List ℕ)) (all rest rest' : List (List (List ℕ))) → all ≡ header ∷ rest → rest ≡ rest' → IsOk (header_of (schema_name fields) header) → fields' ≡ fields → header' ≡ header
+    → rows_in csv_limits fields all ≡ rows_of csv_limits fields' header' rest'
+below-line fields fields' header header' all rest rest' is same ok f h =
+    ap (rows_in csv_limits fields) is ∙ good-names fields header rest ok
+    ∙ ap (λ fs. rows_of csv_limits fs header rest) (sym f) ∙ ap (λ hs. rows_of csv_limits fields' hs rest) (sym h) ∙ ap (rows_of csv_limits fields' header') same

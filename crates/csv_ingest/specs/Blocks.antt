@@ -1,10 +1,11 @@
 -- The rows of a text, read block by block.
-use Rattle.std.specs.Prelude.{◌≡◌, ◌<◌, ◌+◌, ℕ, List, map, Result, Ok}
-use Rattle.std.specs.List.{enumerate_from}
-use Rattle.values.specs.Columns.{ListedColumns, rows_of}
+use Rattle.std.specs.Prelude.{◌≡◌, ◌<◌, ◌+◌, ◌++◌, ℕ, List, map, MatchBool, Result, Ok}
+use Rattle.std.specs.List.{All, enumerate_from}
+use Rattle.values.specs.Columns.{Counts, Listed, ListedColumns, rows_in_columns, rows_of}
 use Rattle.values.specs.declared.value.Value.{Value}
 use Rattle.table_schema.specs.declared.field.Field.{Field}
 use Rattle.csv_row.specs.declared.fault.CsvFault.{CsvFault}
+use Rattle.csv_ingest.specs.declared.rows.Added.{Added}
 use Rattle.csv_ingest.specs.Reading.{Reads, TextReader, records_left}
 use Rattle.csv_row.specs.InOrder.{after, all_or_first}
 use Rattle.csv_row.specs.Row.{csv_limits, row_at}
@@ -42,3 +43,16 @@ pub record IsFullBlock (fields : List Field) (header : List (List ℕ)) (before 
     (old new : TextReader) (rest : List ℕ) (columns : ListedColumns) : Type 0 where
   pub full : columns.count ≡ room
   pub block : IsBlock fields header before columns.count old new rest (rows_of columns)
+
+-- rows were added to columns: all that were left, and fewer than there was room for, or else as
+-- many as there was room for
+pub record AddsBlock (fields : List Field) (header : List (List ℕ)) (before room : ℕ)
+    (old new : TextReader) (rest : List ℕ) (held more : List Listed) (added : Added)
+    : Type 0 where
+  pub rows : List (List Value)
+  pub pushed : (c : ℕ) → All (Counts c) held → rows_in_columns (c + added.count) more
+      ≡ rows_in_columns c held ++ rows
+  pub is : MatchBool added.last
+      ((added.count < room) × ((n : ℕ) → added.count < n → rows_from before fields header
+      (records_left n old rest) ≡ Ok rows))
+      ((added.count ≡ room) × IsBlock fields header before added.count old new rest rows)

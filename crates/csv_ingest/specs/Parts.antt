@@ -13,8 +13,9 @@ use Rattle.csv_row.specs.InOrder.{after}
 use Rattle.csv_row.specs.Row.{cell_value}
 use Rattle.csv_row.specs.declared.fault.CsvKind.{CsvKind}
 use Rattle.csv_ingest.specs.Blocks.{rows_from}
-use Rattle.csv_ingest.specs.Lines.{AtLineEnd, StartsCell}
+use Rattle.csv_ingest.specs.Lines.{AreLines, AtLineEnd, StartsCell}
 use Rattle.csv_ingest.specs.Places.{is_separator, places}
+use Rattle.csv_ingest.specs.declared.lines.Taken.{Taken}
 use Rattle.csv_ingest.specs.declared.parts.Part.{Part}
 
 -- the places are those of the first separators of a text
@@ -95,3 +96,12 @@ pub record ReadsPart (fields : List Field) (header : List (List ℕ)) (text : Li
       (records_from default_config (n + rows) st.StartRecord text))
       ≡ after (rows_in_columns (c + rows) new) (rows_from (before + rows) fields header
       (records_from default_config n st.StartRecord (drop taken text)))
+
+-- columns have the rows of the lines at the start of a text, which are at most so many
+pub record AddsLines (fields : List Field) (header : List (List ℕ)) (text : List ℕ)
+    (columns : List Listed) (most : ℕ) (taken : Taken) : Type 0 where
+  pub lines : AreLines fields header 0 text (record { columns = columns; count = taken.rows })
+      taken.bytes
+  pub counts : All (Counts taken.rows) columns
+  pub sorts : OfSorts fields columns
+  pub at_most : taken.rows ≤ most

@@ -14,6 +14,7 @@ ghost use Rattle.csv_ingest.specs.Reading.{Reads, records_left};
 ghost use Rattle.csv_row.specs.Row.{csv_limits};
 ghost use Rattle.csv_ingest.specs.Rows.{header_of, number_rows_in, records_of, rows_of, with_schema};
 
+use crate::first_line::{header_end, header_line};
 use crate::header::{names_in, number_columns};
 use crate::lines::{Lines, read_lines};
 use crate::records::{from_place, next_record, text_reader, unmarked, unmarked_len};
@@ -155,55 +156,6 @@ fn fields_in(alloc: Global, names: &ByteRecord) -> Result<Seq<Field>, CsvFault>
 {
     let names = names_in(alloc, names)?;
     number_columns(alloc, &names)
-}
-
-// Whether a byte of a header stands for itself, or ends a cell.
-fn is_bare(byte: u8) -> bool
-    ensures { result ≡ is_bare byte }
-{
-    byte < 128 && byte != b'"' && byte != b'\r' && byte != b'\n'
-}
-
-// Where the line feed is that is here, or after a carriage return that is here.
-fn line_feed_at(text: &[u8], at: usize) -> Option<usize>
-    requires { at < length text.now }
-    ensures { IfSome result (IsFeedAfter text.now at) }
-{
-    if text[at] == b'\n' {
-        return Some(at);
-    }
-    if text[at] == b'\r' && at + 1 < text.len() && text[at + 1] == b'\n' {
-        return Some(at + 1);
-    }
-    None
-}
-
-// The line feed at the end of the first line of a text, if that line has characters and no quotes.
-fn header_end(text: &[u8]) -> Option<usize>
-    ensures { IfSome result (IsHeaderEnd text.now) }
-{
-    'bytes: for i in 0..text.len() {
-        if !is_bare(text[i]) {
-            return if i == 0 { None } else { line_feed_at(text, i) };
-        }
-    }
-    None
-}
-
-// The cells of the first line of a text, which ends here.
-fn header_line(alloc: Global, text: &[u8], end: usize) -> Result<ByteRecord, AllocError>
-    requires { IsHeaderEnd text.now end }
-    ensures { IfOk result (λ names. (n : ℕ) → records_from default_config
-        (n + 1) st.StartRecord text.now
-        ≡ fields_of names ∷ records_from default_config n st.StartRecord (drop end text.now)) }
-{
-    let mut reader = text_reader(alloc, &text[..end + 1]);
-    let mut names = ByteRecord::new(alloc);
-    if next_record(&mut reader, &mut names)? {
-        Ok(names)
-    } else {
-        unreachable!()
-    }
 }
 
 // The text of whole numbers that a text is, whose first line has no quotes and ends here.

@@ -2,6 +2,7 @@
 #![tactic(auto)]
 
 mod blocks;
+mod first_line;
 mod header;
 mod laws;
 mod limits;

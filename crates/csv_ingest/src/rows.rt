@@ -2,7 +2,7 @@
 ghost use Rattle.std.specs.Prelude.{◌≡◌, ◌≢◌, ◌≤◌, ◌<◌, ◌+◌, ◌^◌, ℕ, List, map, length, IfOk, IfErr, MatchBool, Ok, Err, []};
 ghost use Rattle.std.specs.List.{All};
 ghost use Rattle.values.specs.Columns.{Counts, rows_of as rows_of_columns};
-ghost use Rattle.csv_ingest.specs.Blocks.{IsFullBlock, IsLastBlock, rows_from};
+ghost use Rattle.csv_ingest.specs.Blocks.{AddsBlock, IsFullBlock, IsLastBlock, rows_from};
 ghost use Rattle.csv_ingest.specs.Reading.{Reads, records_left};
 ghost use Rattle.csv_row.specs.Row.{csv_limits};
 ghost use Rattle.csv_ingest.specs.Rows.{rows_of};
@@ -65,25 +65,64 @@ pub fn read_block(
         → rows_from before layout.now.fields.now (header_of layout.now)
         (records_left n reader.old rest) ≡ Err fault) }
 {
-    let mut record = ByteRecord::new(alloc);
     let mut columns = empty_columns(alloc, layout.fields, room.min(layout.most as usize))?;
+    match push_block(alloc, reader, layout, &mut columns, before, room) {
+        Ok(Added { count, last }) => {
+            let columns = Columns::new(columns, count);
+            Ok(Block { columns, last })
+        }
+        Err(fault) => Err(fault),
+    }
+}
+
+/// How many rows were added to columns, and whether they are the last of a text.
+#[derive(Clone, Copy)]
+pub struct Added {
+    pub count: usize,
+    pub last: bool,
+}
+
+/// Adds the next rows of a text, of which `before` were read, at the ends of columns: as many as
+/// there is room for, or else the last.
+pub fn push_block(
+    alloc: Global,
+    reader: &mut Reader<&[u8]>,
+    layout: &Layout,
+    columns: &mut Vec<Column>,
+    before: usize,
+    room: usize,
+) -> Result<Added, CsvFault>
+    requires at_most { before + room < 2 ^ 31 }
+    requires layout { IsLayout layout.now }
+    requires sorts { OfSorts layout.now.fields.now columns.old.items }
+    ensures ok { IfOk result (λ added. (rest : List ℕ) → Reads reader.old rest
+        → AddsBlock layout.now.fields.now (header_of layout.now) before room reader.old reader.new
+        rest columns.old.items columns.new.items added) }
+    ensures sorts { IfOk result (λ _. OfSorts layout.now.fields.now columns.new.items) }
+    ensures counts { IfOk result (λ added. (c : ℕ) → All (Counts c) columns.old.items
+        → All (Counts (c + added.count)) columns.new.items) }
+    ensures most { IfOk result (λ added. added.count ≤ room) }
+    ensures err { IfErr result (λ fault. fault ≢ CsvFault.NoMemory → (rest : List ℕ)
+        → Reads reader.old rest → (n : ℕ) → room ≤ n
+        → rows_from before layout.now.fields.now (header_of layout.now)
+        (records_left n reader.old rest) ≡ Err fault) }
+{
+    let mut record = ByteRecord::new(alloc);
     'rows: for i in 0..room {
         if !next_record(reader, &mut record)? {
-            let columns = Columns::new(columns, i);
-            return Ok(Block {
-                columns,
+            return Ok(Added {
+                count: i,
                 last: true,
             });
         }
         let row = (before + i) as u32 + 1;
-        match layout.push_row(alloc, &mut columns, &record, row) {
+        match layout.push_row(alloc, columns, &record, row) {
             Ok(()) => {}
             Err(fault) => return Err(fault),
         }
     }
-    let columns = Columns::new(columns, room);
-    Ok(Block {
-        columns,
+    Ok(Added {
+        count: room,
         last: false,
     })
 }

@@ -5,5 +5,5 @@ use Rattle.csv_ingest.proofs.lines.mark_part.Goals as goal
 
 pub returns : goal.returns
 returns c =
-    first-marks c.args.text.now c.push_separators.new.out.items c.min.result
-    (c.in_ok-push_separators.ensures ∙ ap (λ l. l ++ places is_separator 0 (take c.min.result c.args.text.now)) c.clear.ensures.items)
+    first-marks c.args.text.now c.push_separators.new.out.items c.part_len.result
+    (c.in_ok-push_separators.ensures ∙ ap (λ l. l ++ places is_separator 0 (take c.part_len.result c.args.text.now)) c.clear.ensures.items)

@@ -3,7 +3,7 @@ use Rattle.csv.specs.Reading.{strip_bom}
 use Rattle.csv.specs.Records.{fields_of}
 use Rattle.csv_ingest.specs.Reading.{records_left}
 use Rattle.csv_ingest.proofs.HeaderLine.{header-read, header-there}
-use Rattle.csv_ingest.proofs.blocks.header_line.Goals as goal
+use Rattle.csv_ingest.proofs.first_line.header_line.Goals as goal
 
 pub unreachable-requires : goal.unreachable-requires
 unreachable-requires c =
