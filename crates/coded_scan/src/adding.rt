@@ -138,7 +138,15 @@ fn add_block(
         (passing (λ at. all_let at rows.entry.row_filters.now) done
         (block.from + block.length - done))) table.old }
 {
-    push_block(alloc, rows.row_filters, rows.segment.count, block, places)?;
+    let mut own = Vec::new(alloc);
+    push_block(
+        alloc,
+        rows.row_filters,
+        rows.segment.count,
+        block,
+        places,
+        &mut own,
+    )?;
     let most = FEW_PLACES.max(table.groups() as usize * PLACES_A_GROUP);
     if places.len() < most {
         return Ok(done);
