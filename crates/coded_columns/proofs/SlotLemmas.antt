@@ -1,6 +1,6 @@
 -- Rows in slots: those of each slot, and all of them slot by slot.
-use Rattle.std.proofs.Common.{◌≡◌, ◌∙◌, ◌<◌, ◌≤◌, ◌+◌, ◌*◌, ◌++◌, ◌∷◌, ◌==◌, [], ℕ, zero, suc, Bool, true, false, cond, nat_lt, List, length, map, get_or, refl, ap, sym, subst, arith, replicate, pos}
-use Rattle.std.proofs.lemmas.Bool.{cond-true, cond-false, eq-eqb}
+use Rattle.std.proofs.Common.{◌≡◌, ◌≢◌, ◌∙◌, ◌<◌, ◌≤◌, ◌+◌, ◌*◌, ◌++◌, ◌∷◌, ◌==◌, [], ℕ, zero, suc, Bool, true, false, cond, nat_lt, List, length, map, get_or, refl, ap, sym, subst, arith, replicate, pos}
+use Rattle.std.proofs.lemmas.Bool.{cond-true, cond-false, eq-eqb, ne_eqb}
 use Rattle.std.proofs.lemmas.Bool.Decides.{nat_tests}
 use Rattle.std.proofs.lemmas.List.{map-append, length-replicate}
 use Rattle.std.proofs.lemmas.List.Elements.{All-cons, All-nil}
@@ -12,6 +12,7 @@ use Rattle.values.specs.declared.value.Value.TheVariants.{Whole}
 use Rattle.values.specs.Columns.{Listed, row_of}
 use Rattle.table_schema.specs.Conditions.{cell}
 use Rattle.group_table.specs.Groups.{key_of}
+use Rattle.value_ids.specs.Coding.{AreBelow}
 use Rattle.coded_columns.specs.Slots.{AreRanked, AreSlots, before_slot, from_slot, in_slot, packed}
 
 either : {X Y : Type 0} (f : X → Y) (b : Bool) (x : X) (xs : List X) → map f (cond b (x ∷ xs) xs) ≡ cond b (f x ∷ map f xs) (map f xs)
@@ -71,6 +72,22 @@ in_slot-all P slot (s ∷ slots) [] d h = All-nil P
 in_slot-all P slot (s ∷ slots) (x ∷ xs) d h =
     all_more P (s == slot) x (in_slot slot slots xs) (λ e. h 0 (omega arith) (grind (arith, nat_tests, e)))
     (in_slot-all P slot slots xs d (λ k lt is. h (suc k) (omega (arith, lt)) is))
+
+-- where there is one slot all rows have it
+pub in_slot-one : {X : Type 0} (slots : List ℕ) (xs : List X) → length slots ≡ length xs → AreBelow 1 slots → in_slot 0 slots xs ≡ xs
+in_slot-one [] [] same below = refl
+in_slot-one [] (x ∷ xs) same below = absurd (omega (arith, same))
+in_slot-one (s ∷ slots) [] same below = absurd (omega (arith, same))
+in_slot-one (s ∷ slots) (x ∷ xs) same below =
+    cond-true (s == 0) (x ∷ in_slot 0 slots xs) (in_slot 0 slots xs) (eq-eqb s 0 (omega (arith, below 0 0 (omega arith))))
+    ∙ ap (λ ys. x ∷ ys) (in_slot-one slots xs (omega (arith, same)) (λ k d lt. below (suc k) d (omega (arith, lt))))
+
+pub in_slot-other : {X : Type 0} (slot : ℕ) (slots : List ℕ) (xs : List X) → slot ≢ 0 → AreBelow 1 slots → in_slot slot slots xs ≡ []
+in_slot-other slot [] xs ne below = refl
+in_slot-other slot (s ∷ slots) [] ne below = refl
+in_slot-other slot (s ∷ slots) (x ∷ xs) ne below =
+    cond-false (s == slot) (x ∷ in_slot slot slots xs) (in_slot slot slots xs) (ne_eqb s slot (λ e. ne (omega (arith, e, below 0 0 (omega arith)))))
+    ∙ in_slot-other slot slots xs ne (λ k d lt. below (suc k) d (omega (arith, lt)))
 
 -- ---- slot by slot
 

@@ -1,6 +1,6 @@
 //! How many rows each slot has.
 
-ghost use Rattle.std.specs.Prelude.{◌≡◌, ◌≤◌, ◌<◌, ◌+◌, ◌^◌, ◌==◌, ◌∷◌, [], ℕ, ℤ, List, IfOk, count_by, get_or, length};
+ghost use Rattle.std.specs.Prelude.{◌≡◌, ◌≢◌, ◌≤◌, ◌<◌, ◌+◌, ◌^◌, ◌==◌, ◌∷◌, [], ℕ, ℤ, List, IfOk, count_by, get_or, length};
 ghost use Rattle.agg_laws.specs.declared.states.AggState.TheVariants.{Count};
 ghost use Rattle.state_columns.specs.Columns.{state_at};
 ghost use Rattle.value_ids.specs.Coding.{AreBelow};
@@ -38,6 +38,42 @@ fn counted_in(alloc: Global, slots: &[u32], counts: &mut [u32]) -> Result<StateC
 
 /// Adds to the count of each slot how many of the rows have it.
 pub fn count_slots(slots: &[u32], counts: &mut [u32])
+    requires below { AreBelow (length counts.old) slots.now }
+    requires fits { (slot : ℕ) → get_or counts.old slot 0 + length slots.now < 2 ^ 32 }
+    ensures { (slot : ℕ) → get_or counts.new slot 0
+        ≡ get_or counts.old slot 0 + count_by (λ s. s == slot) slots.now }
+{
+    if counts.len() == 1 {
+        count_all(slots, counts);
+    } else {
+        count_each(slots, counts);
+    }
+}
+
+// The same where there is one slot: no row is looked at.
+fn count_all(slots: &[u32], counts: &mut [u32])
+    requires one { length counts.old ≡ 1 }
+    requires below { AreBelow (length counts.old) slots.now }
+    requires fits { (slot : ℕ) → get_or counts.old slot 0 + length slots.now < 2 ^ 32 }
+    ensures { (slot : ℕ) → get_or counts.new slot 0
+        ≡ get_or counts.old slot 0 + count_by (λ s. s == slot) slots.now }
+{
+    count_more(counts, slots.len() as u32);
+}
+
+// Adds so many to the first count.
+fn count_more(counts: &mut [u32], many: u32)
+    requires some { 0 < length counts.old }
+    requires fits { get_or counts.old 0 0 + many < 2 ^ 32 }
+    ensures own { get_or counts.new 0 0 ≡ get_or counts.old 0 0 + many }
+    ensures others { (other : ℕ) → other ≢ 0 → get_or counts.new other 0
+        ≡ get_or counts.old other 0 }
+{
+    counts[0] += many;
+}
+
+// The same row by row.
+fn count_each(slots: &[u32], counts: &mut [u32])
     requires below { AreBelow (length counts.old) slots.now }
     requires fits { (slot : ℕ) → get_or counts.old slot 0 + length slots.now < 2 ^ 32 }
     ensures { (slot : ℕ) → get_or counts.new slot 0

@@ -54,19 +54,19 @@ impl Ids {
         }
     }
 
-    /// The ids of some rows from one on, in four bytes each.
-    pub fn between(&self, alloc: Global, from: usize, many: usize) -> Result<Vec<u32>, NoMemory>
+    /// The ids of some rows from one on, in four bytes each, in place of others.
+    pub fn between(&self, from: usize, many: usize, own: &mut Vec<u32>) -> Result<(), NoMemory>
         requires { from + many ≤ length self.now }
-        ensures count { IfOk result (λ own. length own.items ≡ many) }
-        ensures each { IfOk result (λ own. (at : ℕ) → at < many
-            → get_or own.items at 0 ≡ get_or self.now (from + at) 0) }
+        ensures count { OnOk result (length own.new.items ≡ many) }
+        ensures each { OnOk result ((at : ℕ) → at < many
+            → get_or own.new.items at 0 ≡ get_or self.now (from + at) 0) }
     {
-        let mut own = vec![in alloc; 0u32; many]?;
+        own.resize(many, 0)?;
         match &self.room {
-            IdRoom::Narrow(ids) => widen(&ids[from..from + many], &mut own),
+            IdRoom::Narrow(ids) => widen(&ids[from..from + many], own),
             IdRoom::Wide(ids) => own.copy_from_slice(&ids[from..from + many]),
         }
-        Ok(own)
+        Ok(())
     }
 
     /// The ids where they lie, for a loop over many rows.

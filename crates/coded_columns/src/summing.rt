@@ -71,6 +71,75 @@ pub fn add_sums(
         (map (number_at (seen_ids ids.entry) numbers.now) places.now)) }
     ensures whole { AreWhole (map (number_at (seen_ids ids.entry) numbers.now) places.now) }
 {
+    if sums.len() == 1 {
+        add_all(slots, places, ids, numbers, sums);
+    } else {
+        add_each(slots, places, ids, numbers, sums);
+    }
+}
+
+// The same where there is one slot: no slot is looked at.
+fn add_all(slots: &[u32], places: &[u32], ids: IdSlices<'_>, numbers: &[i64], sums: &mut [i128])
+    requires one { length sums.old ≡ 1 }
+    requires slots { HaveSlots slots.now places.now }
+    requires below { AreBelow (length sums.old) slots.now }
+    requires fits { (slot : ℕ) → slot < length sums.old
+        → SumFits (get_or sums.old slot (pos 0)) (most_rows - length places.now) }
+    ensures sums { (slot : ℕ) → get_or sums.new slot (pos 0) ≡ get_or sums.old slot (pos 0)
+        +ℤ sum_of (in_slot slot slots.now
+        (map (number_at (seen_ids ids.entry) numbers.now) places.now)) }
+    ensures whole { AreWhole (map (number_at (seen_ids ids.entry) numbers.now) places.now) }
+{
+    let total = total_of(places, ids, numbers, sums[0]);
+    set_sum(sums, total);
+}
+
+// A sum and the numbers of rows, by their ids.
+fn total_of(places: &[u32], ids: IdSlices<'_>, numbers: &[i64], sum: i128) -> i128
+    requires at_most { length places.now ≤ most_rows }
+    requires fits { SumFits sum (most_rows - length places.now) }
+    ensures sum { result ≡ sum
+        +ℤ sum_of (map (number_at (seen_ids ids.entry) numbers.now) places.now) }
+    ensures whole { AreWhole (map (number_at (seen_ids ids.entry) numbers.now) places.now) }
+{
+    let mut total = sum;
+    for k in 0..places.len() {
+        let number = number_at(ids, numbers, places[k] as usize);
+        total = plus(total, number);
+    }
+    total
+}
+
+// A sum and one number more.
+#[inline(always)]
+fn plus(sum: i128, number: i64) -> i128
+    requires { SumFits sum most_rows }
+    ensures { result ≡ sum +ℤ number }
+{
+    sum + number as i128
+}
+
+// Puts the first sum.
+fn set_sum(sums: &mut [i128], sum: i128)
+    requires { 0 < length sums.old }
+    ensures own { get_or sums.new 0 (pos 0) ≡ sum }
+    ensures others { (other : ℕ) → other ≢ 0
+        → get_or sums.new other (pos 0) ≡ get_or sums.old other (pos 0) }
+{
+    sums[0] = sum;
+}
+
+// The same row by row.
+fn add_each(slots: &[u32], places: &[u32], ids: IdSlices<'_>, numbers: &[i64], sums: &mut [i128])
+    requires slots { HaveSlots slots.now places.now }
+    requires below { AreBelow (length sums.old) slots.now }
+    requires fits { (slot : ℕ) → slot < length sums.old
+        → SumFits (get_or sums.old slot (pos 0)) (most_rows - length places.now) }
+    ensures sums { (slot : ℕ) → get_or sums.new slot (pos 0) ≡ get_or sums.old slot (pos 0)
+        +ℤ sum_of (in_slot slot slots.now
+        (map (number_at (seen_ids ids.entry) numbers.now) places.now)) }
+    ensures whole { AreWhole (map (number_at (seen_ids ids.entry) numbers.now) places.now) }
+{
     for k in 0..slots.len() {
         let number = number_at(ids, numbers, places[k] as usize);
         add_one(sums, slots[k] as usize, number);

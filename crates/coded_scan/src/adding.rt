@@ -145,7 +145,15 @@ fn add_block(
     ensures filled { result ≡ Err TooManyGroups →
         finite.len (groups_in table.new) ≡ table.old.most }
 {
-    push_block(alloc, rows.row_filters, rows.segment.count, block, places)?;
+    let mut own = Vec::new(alloc);
+    push_block(
+        alloc,
+        rows.row_filters,
+        rows.segment.count,
+        block,
+        places,
+        &mut own,
+    )?;
     let most = FEW_PLACES.max(table.groups() as usize * PLACES_A_GROUP);
     if places.len() < most {
         return Ok(done);

@@ -96,11 +96,12 @@ fn keyed_of(
     let mut keyed = KeyedRows::new(alloc, rows.segment, aggs, size)?;
     let mut places = Vec::with_capacity(alloc, BLOCK)?;
     let mut keys = Vec::with_capacity(alloc, BLOCK)?;
+    let mut own = Vec::with_capacity(alloc, BLOCK)?;
     let mut from = 0;
     for _ in 0..count / BLOCK + 1 {
         let block = block_from(from, count);
         places.clear();
-        push_block(alloc, rows.row_filters, count, block, &mut places)?;
+        push_block(alloc, rows.row_filters, count, block, &mut places, &mut own)?;
         keyed.add(rows.segment, groups, aggs, places.as_slice(), &mut keys)?;
         from += block.length;
     }

@@ -94,6 +94,7 @@ pub fn marks_of(
     from: usize,
     many: usize,
     row_filter: &RowFilter<'_>,
+    own: &mut Vec<u32>,
 ) -> Result<Vec<bool>, NoMemory>
     requires covers { covers count row_filter.now ≡ true }
     requires within { from + many ≤ count }
@@ -103,8 +104,8 @@ pub fn marks_of(
 {
     match row_filter {
         RowFilter::Ids(ids, matching) => {
-            let own = ids.between(alloc, from, many)?;
-            let marks = marks_of_ids(alloc, &own, matching)?;
+            ids.between(from, many, own)?;
+            let marks = marks_of_ids(alloc, own.as_slice(), matching)?;
             Ok(marks)
         }
         RowFilter::Fixed(holds) => {
@@ -114,16 +115,16 @@ pub fn marks_of(
         RowFilter::All(inner) => {
             let mut marks = same_marks(alloc, true, many)?;
             for member in inner.as_slice() {
-                let own = marks_of(alloc, count, from, many, member)?;
-                keep_marked(&mut marks, &own);
+                let others = marks_of(alloc, count, from, many, member, own)?;
+                keep_marked(&mut marks, &others);
             }
             Ok(marks)
         }
         RowFilter::Any(inner) => {
             let mut marks = same_marks(alloc, false, many)?;
             for member in inner.as_slice() {
-                let own = marks_of(alloc, count, from, many, member)?;
-                add_marked(&mut marks, &own);
+                let others = marks_of(alloc, count, from, many, member, own)?;
+                add_marked(&mut marks, &others);
             }
             Ok(marks)
         }

@@ -18,13 +18,15 @@ pub struct Block {
     pub length: usize,
 }
 
-/// Adds the places of those rows of a block that all conditions let through.
+/// Adds the places of those rows of a block that all conditions let through. The ids of a block are
+/// put in the place of others.
 pub fn push_block(
     alloc: Global,
     row_filters: &[RowFilter<'_>],
     count: usize,
     block: Block,
     places: &mut Vec<u32>,
+    own: &mut Vec<u32>,
 ) -> Result<(), NoMemory>
     requires covers { AllCover count row_filters.now }
     requires within { block.from + block.length ≤ count }
@@ -35,7 +37,7 @@ pub fn push_block(
     if row_filters.is_empty() {
         return push_all(block, places);
     }
-    let marks = mark_block(alloc, row_filters, count, block)?;
+    let marks = mark_block(alloc, row_filters, count, block, own)?;
     push_marked(block, &marks, places)
 }
 
@@ -45,6 +47,7 @@ fn mark_block(
     row_filters: &[RowFilter<'_>],
     count: usize,
     block: Block,
+    own: &mut Vec<u32>,
 ) -> Result<Vec<bool>, NoMemory>
     requires covers { AllCover count row_filters.now }
     requires within { block.from + block.length ≤ count }
@@ -53,7 +56,7 @@ fn mark_block(
         → get_or marks.items at false ≡ all_let (block.from + at) row_filters.now) }
 {
     let mut marks = vec![in alloc; true; block.length]?;
-    keep_all(alloc, &mut marks, count, block.from, row_filters)?;
+    keep_all(alloc, &mut marks, count, block.from, row_filters, own)?;
     Ok(marks)
 }
 
@@ -64,13 +67,14 @@ fn keep_all(
     count: usize,
     from: usize,
     row_filters: &[RowFilter<'_>],
+    own: &mut Vec<u32>,
 ) -> Result<(), NoMemory>
     requires covers { AllCover count row_filters.now }
     requires within { from + length marks.old ≤ count }
     ensures { OnOk result (Keeps (λ at. all_let (from + at) row_filters.now) marks.old marks.new) }
 {
     for at in 0..row_filters.len() {
-        keep(alloc, marks, count, from, &row_filters[at])?;
+        keep(alloc, marks, count, from, &row_filters[at], own)?;
     }
     Ok(())
 }
@@ -81,11 +85,20 @@ fn push_all(block: Block, places: &mut Vec<u32>) -> Result<(), NoMemory>
     ensures { OnOk result (places.new.items
         ≡ places.old.items ++ passing (λ at. true) block.from block.length) }
 {
-    places.reserve(block.length)?;
-    for at in 0..block.length {
-        places.push((block.from + at) as u32)?;
-    }
+    let start = places.len();
+    places.resize(start + block.length, 0)?;
+    put_all(block.from as u32, &mut places[start..]);
     Ok(())
+}
+
+// Puts the places of rows from one on.
+fn put_all(from: u32, out: &mut [u32])
+    requires { from + length out.old ≤ most_rows }
+    ensures { out.new ≡ passing (λ at. true) from (length out.old) }
+{
+    for at in 0..out.len() {
+        out[at] = from + at as u32;
+    }
 }
 
 // Leaves the marks of those rows from one on that a condition lets through.
@@ -95,6 +108,7 @@ fn keep(
     count: usize,
     from: usize,
     row_filter: &RowFilter<'_>,
+    own: &mut Vec<u32>,
 ) -> Result<(), NoMemory>
     requires covers { covers count row_filter.now ≡ true }
     requires within { from + length marks.old ≤ count }
@@ -102,13 +116,13 @@ fn keep(
 {
     match row_filter {
         RowFilter::Ids(ids, matching) => {
-            let own = ids.between(alloc, from, marks.len())?;
-            keep_ids(marks, &own, matching);
+            ids.between(from, marks.len(), own)?;
+            keep_ids(marks, own.as_slice(), matching);
         }
         RowFilter::Fixed(holds) => keep_if(marks, *holds),
         RowFilter::All(_) | RowFilter::Any(_) => {
-            let own = marks_of(alloc, count, from, marks.len(), row_filter)?;
-            keep_marked(marks, &own);
+            let others = marks_of(alloc, count, from, marks.len(), row_filter, own)?;
+            keep_marked(marks, &others);
         }
     }
     Ok(())

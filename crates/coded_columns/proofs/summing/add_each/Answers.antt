@@ -7,7 +7,7 @@ use Rattle.coded_columns.specs.Coded.{most_rows}
 use Rattle.coded_columns.specs.Ids.{seen_ids}
 use Rattle.coded_columns.specs.Slots.{in_slot, number_at}
 use Rattle.coded_columns.proofs.FoldSteps.{map-next, sum-next, sums-fit, whole-push}
-use Rattle.coded_columns.proofs.summing.add_sums.Goals as goal
+use Rattle.coded_columns.proofs.summing.add_each.Goals as goal
 
 pub loop-k-init : goal.loop-k-init
 loop-k-init c = record {

@@ -3,7 +3,7 @@ use Rattle.agg_laws.specs.Numbers.{AreWhole, SumFits, sum_of}
 use Rattle.coded_columns.specs.Coded.{most_rows}
 use Rattle.coded_columns.specs.Ids.{seen_ids}
 use Rattle.coded_columns.specs.Slots.{in_slot, number_at}
-use Rattle.coded_columns.proofs.summing.add_sums.Given as goal
+use Rattle.coded_columns.proofs.summing.add_each.Given as goal
 
 abbrev pub invariant-loop-k : goal.invariant-loop-k
 invariant-loop-k l = record {
