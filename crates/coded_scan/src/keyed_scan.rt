@@ -42,6 +42,8 @@ pub fn add_filtered<'a, 'i>(
     ensures full { result ≡ Err TooManyGroups → IsOverfull query.now
         (rows_at (table_of segment.now).columns
         (passing (λ at. all_let at row_filters.now) 0 segment.now.count)) table.old }
+    ensures filled { result ≡ Err TooManyGroups →
+        finite.len (groups_in table.new) ≡ table.old.most }
 {
     match key_count(segment, query.groups.as_slice()) {
         Some(size) => {
