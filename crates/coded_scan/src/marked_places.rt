@@ -77,8 +77,8 @@ fn put_stretch(
     count
 }
 
-// Whether there is a mark. It looks at each, so that it is done many at a time.
-fn has_mark(marks: &[bool]) -> bool
+/// Whether there is a mark. It looks at each, so that it is done many at a time.
+pub fn has_mark(marks: &[bool]) -> bool
     ensures { result ≡ false → (at : ℕ) → at < length marks.now
         → get_or marks.now at false ≡ false }
 {

@@ -5,7 +5,7 @@ ghost use Rattle.scan_engine.specs.Selection.{Keeps};
 ghost use Rattle.coded_columns.specs.Coded.{most_rows};
 ghost use Rattle.coded_scan.specs.RowFilters.{AllCover, all_let, covers, lets, passing};
 
-use crate::marked_places::push_marked;
+use crate::marked_places::{has_mark, push_marked};
 use crate::marking::{keep_ids, keep_if, keep_marked, marks_of};
 use crate::row_filter::RowFilter;
 use std::alloc::Global;
@@ -101,7 +101,8 @@ fn put_all(from: u32, out: &mut [u32])
     }
 }
 
-// Leaves the marks of those rows from one on that a condition lets through.
+// Leaves the marks of those rows from one on that a condition lets through. Where none is left
+// there is nothing to do.
 fn keep(
     alloc: Global,
     marks: &mut [bool],
@@ -114,6 +115,9 @@ fn keep(
     requires within { from + length marks.old ≤ count }
     ensures { OnOk result (Keeps (λ at. lets (from + at) row_filter.now) marks.old marks.new) }
 {
+    if !has_mark(marks) {
+        return Ok(());
+    }
     match row_filter {
         RowFilter::Ids(ids, matching) => {
             ids.between(from, marks.len(), own)?;
