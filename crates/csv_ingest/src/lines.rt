@@ -22,6 +22,9 @@ const PART_BYTES: usize = 49_152;
 
 const MOST_AFTER: usize = 1_048_576;
 
+// Room for so many places is taken at once.
+const PART_PLACES: usize = 16_384;
+
 /// Some rows of a text, and how many of its bytes they are.
 #[derive(Drop)]
 pub struct Lines {
@@ -43,7 +46,7 @@ pub fn read_lines(
         text.now l.columns l.taken) }
 {
     let room = (layout.most as usize).saturating_sub(before).min(room);
-    let mut places = Vec::new(alloc);
+    let mut places = Vec::with_capacity(alloc, PART_PLACES)?;
     mark_part(text, &mut places)?;
     let Some(part) = part_of(text, &places, layout.names.len(), room) else {
         return no_lines(alloc, layout);
@@ -80,7 +83,7 @@ pub fn push_lines(
     ensures { IfOk result (λ t. IfSome t (λ taken. AddsLines layout.now.fields.now
         (header_of layout.now) text.now columns.new.items most taken)) }
 {
-    let mut places = Vec::new(alloc);
+    let mut places = Vec::with_capacity(alloc, PART_PLACES)?;
     let mut rows = 0;
     let mut bytes = 0;
     'parts: while rows < most {
