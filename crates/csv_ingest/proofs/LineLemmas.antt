@@ -1,13 +1,12 @@
 -- Cells of digits, as the machine of `csv` reads them.
-use Rattle.std.proofs.Common.{◌≡◌, ◌∙◌, ◌<◌, ◌≤◌, ◌+◌, ◌-◌, ◌*◌, ◌^◌, ◌++◌, ◌&&◌, ◌==◌, inl, inr, ℕ, zero, suc, pos, List, [], ◌∷◌, length, take, drop, get_or, nat_lt, Bool, true, false, Some, option_map, Ok, refl, sym, ap, subst, arith, append_assoc, append-nil, length-append, add-one}
+use Rattle.std.proofs.Common.{◌≡◌, ◌∙◌, ◌<◌, ◌≤◌, ◌+◌, ◌-◌, ◌*◌, ◌^◌, ◌++◌, ◌&&◌, ◌==◌, ℕ, zero, suc, pos, List, [], ◌∷◌, length, take, drop, get_or, nat_lt, Bool, true, false, Some, option_map, Ok, refl, sym, ap, subst, arith, append_assoc, append-nil, length-append, add-one}
 use Rattle.std.proofs.Math.Nat.{pow-suc}
 use Rattle.std.proofs.Math.Seq.{drop-cons}
 use Rattle.std.proofs.lemmas.Bool.Decides.{nat_tests}
-use Rattle.std.proofs.lemmas.List.{take-append-drop, take_more}
+use Rattle.std.proofs.lemmas.List.{take_more}
 use Rattle.std.specs.List.{list_all}
 use Rattle.csv.specs.Machine.{next_record}
 use Rattle.csv.specs.Reading.{default_config}
-use Rattle.csv.specs.declared.parser.State.{State}
 use Rattle.csv.specs.declared.parser.State.TheVariants as st
 use Rattle.data_types.proofs.Digits.{at_most}
 use Rattle.data_types.specs.Numbers.{is_digit, negative, place_value, ranged, spelled_number, unsigned_number, whole_of}

@@ -1,5 +1,5 @@
 -- Lines of whole numbers as rows.
-use Rattle.std.proofs.Common.{◌≡◌, ◌∙◌, ◌<◌, ◌≤◌, ◌+◌, ◌++◌, inl, inr, ℕ, zero, suc, ℤ, pos, List, [], ◌∷◌, length, map, take, drop, set, get_or, Bool, false, not, ◌==◌, if◌then◌else◌, nat_lt, Option, Some, None, Result, Ok, Err, ◌-◌, refl, sym, ap, ap₂, subst, arith, add-one, IfSome}
+use Rattle.std.proofs.Common.{◌≡◌, ◌∙◌, ◌<◌, ◌≤◌, ◌+◌, ◌++◌, inl, inr, ℕ, suc, ℤ, pos, List, [], ◌∷◌, length, map, take, drop, set, get_or, false, not, ◌==◌, nat_lt, Option, Some, None, Ok, Err, ◌-◌, refl, sym, ap, ap₂, subst, arith, IfSome}
 use Rattle.std.proofs.lemmas.List.{drop-drop, get_or-map, length-drop, length-map, length-set, length-take-le, map-append, take_all, take_more, take_more_set}
 use Rattle.std.proofs.lemmas.Bool.Decides.{nat_tests}
 use Rattle.std.specs.List.{All, enumerate_from}
@@ -17,15 +17,13 @@ use Rattle.values.specs.declared.value.Value.TheVariants.{Whole}
 use Rattle.data_types.specs.declared.whole.WholeFault.TheVariants.{NotANumber}
 use Rattle.table_schema.specs.declared.field.Field.{Field}
 use Rattle.table_schema.specs.ValidTable.{most_rows}
-use Rattle.csv_row.specs.declared.fault.CsvFault.{CsvFault}
 use Rattle.csv_row.specs.declared.layout.Layout.{Layout}
 use Rattle.csv_ingest.specs.Blocks.{RowsOrFault, rows_from}
-use Rattle.csv_row.specs.InOrder.{after, all_or_first, joined}
+use Rattle.csv_row.specs.InOrder.{after, all_or_first}
 use Rattle.csv_row.specs.Columns.{OfSorts, is_text_kind}
 use Rattle.csv_row.specs.Layouts.{IsLayout, header_of}
 use Rattle.csv_ingest.specs.Lines.{AreLines, AtLineEnd, StartsCell}
 use Rattle.csv_ingest.specs.NumberLines.{IsCell, IsLastCell, IsLine, IsWholeField, IsStart, IsStraight, cell_number}
-use Rattle.csv_ingest.specs.Names.{number_field}
 use Rattle.csv_row.specs.Row.{cell_value, csv_limits, place_of, placed, row_at, value_at, value_in}
 use Rattle.csv_row.proofs.CellLemmas.{number-found}
 use Rattle.csv_row.proofs.ColumnLemmas.{column-set, widths}

@@ -1,5 +1,5 @@
 -- Lines of whole numbers in a text, whose cells have no quotes.
-use Rattle.std.specs.Prelude.{◌≡◌, ◌<◌, ◌≤◌, ◌+◌, ◌^◌, ◌∷◌, ◌⊎◌, ◌++◌, ℕ, ℤ, pos, List, [], Bool, false, not, nat_lt, ◌==◌, ◌&&◌, Some, None, Result, length, map, take, drop, Ok, true, get_or}
+use Rattle.std.specs.Prelude.{◌≡◌, ◌<◌, ◌≤◌, ◌+◌, ◌^◌, ◌∷◌, ◌⊎◌, ◌++◌, ℕ, ℤ, pos, List, [], Some, None, Result, length, map, take, drop, Ok, true, get_or}
 use Rattle.std.specs.List.{list_all}
 use Rattle.csv.specs.Machine.{next_record}
 use Rattle.csv.specs.Reading.{default_config, records_from, records_next}
