@@ -8,7 +8,7 @@ use Rattle.csv.specs.Machine.{next_record}
 use Rattle.csv.specs.Reading.{default_config, records_from, records_next}
 use Rattle.csv.specs.declared.parser.State.{State}
 use Rattle.csv.specs.declared.parser.State.TheVariants as st
-use Rattle.csv_ingest.specs.Lines.{StartsCell}
+use Rattle.csv_ingest.specs.NumberLines.{EndsCell, IsStart}
 use Rattle.csv_ingest.specs.Parts.{AreMarks, IsLineAt, cell_at, cells_at, mark_at}
 use Rattle.csv_ingest.specs.Places.{is_separator, places}
 
@@ -136,14 +136,6 @@ cell-is text marks m i lt =
 
 -- ---- the machine
 
--- a comma, a line feed or a carriage return
-abbrev pub EndsCell : ℕ → Type 0
-EndsCell byte = (byte ≡ 44) ⊎ (byte ≡ 10) ⊎ (byte ≡ 13)
-
--- a field of this text starts in the state
-abbrev pub IsStart : List ℕ → State → Type 0
-IsStart text s = ((s ≡ st.StartRecord) × StartsCell text) ⊎ (s ≡ st.StartField)
-
 plain-byte : (b : ℕ) → other is_separator b ≡ true → ((b == 44) ≡ false) × ((b == 13) ≡ false) × ((b == 10) ≡ false) × ((b == 34) ≡ false)
 plain-byte b one = (grind (arith, nat_tests), grind (arith, nat_tests), grind (arith, nat_tests), grind (arith, nat_tests))
 
@@ -170,14 +162,14 @@ copy-all fields field (x ∷ xs) rest all =
     ∙ copy-all fields (field ++ x ∷ []) xs rest (and-right (other is_separator x) (list_all (other is_separator) xs) all)
     ∙ ap (λ f. next_record default_config st.InField fields f rest) (append_assoc field (x ∷ []) xs)
 
-start-one : (text : List ℕ) (s : State) → IsStart text s → (fields : List (List ℕ)) (b : ℕ) (rest : List ℕ) → (b == 44) ≡ false → (b == 13) ≡ false → (b == 10) ≡ false → (b == 34) ≡ false
+pub start-one : (text : List ℕ) (s : State) → IsStart text s → (fields : List (List ℕ)) (b : ℕ) (rest : List ℕ) → (b == 44) ≡ false → (b == 13) ≡ false → (b == 10) ≡ false → (b == 34) ≡ false
     → next_record default_config s fields [] (b ∷ rest) ≡ next_record default_config st.InField fields (b ∷ []) rest
 unfolding next_record
 start-one text s (inl (e, bare)) fields b rest comma cr lf quote = rw e (rw (comma, cr, lf, quote) refl)
 start-one text s (inr e) fields b rest comma cr lf quote = rw e (rw (comma, cr, lf, quote) refl)
 
 -- an empty cell
-no-byte : (s : State) (fields : List (List ℕ)) (end : ℕ) (rest : List ℕ) → EndsCell end → IsStart (end ∷ rest) s → next_record default_config s fields [] (end ∷ rest) ≡ next_record default_config st.InField fields [] (end ∷ rest)
+pub no-byte : (s : State) (fields : List (List ℕ)) (end : ℕ) (rest : List ℕ) → EndsCell end → IsStart (end ∷ rest) s → next_record default_config s fields [] (end ∷ rest) ≡ next_record default_config st.InField fields [] (end ∷ rest)
 unfolding next_record
 no-byte s fields end rest (inl comma) (inl (e, bare)) = rw (e, comma) refl
 no-byte s fields end rest (inl comma) (inr e) = rw (e, comma) refl
@@ -195,15 +187,15 @@ cell-read s fields (b ∷ bs) end rest plain ends is =
     start-one ((b ∷ bs) ++ end ∷ rest) s is fields b (bs ++ end ∷ rest) comma cr lf quote
     ∙ copy-all fields (b ∷ []) bs (end ∷ rest) (and-right (other is_separator b) (list_all (other is_separator) bs) plain)
 
-comma-read : (fields : List (List ℕ)) (cell rest : List ℕ) → next_record default_config st.InField fields cell (44 ∷ rest) ≡ next_record default_config st.StartField (fields ++ cell ∷ []) [] rest
+pub comma-read : (fields : List (List ℕ)) (cell rest : List ℕ) → next_record default_config st.InField fields cell (44 ∷ rest) ≡ next_record default_config st.StartField (fields ++ cell ∷ []) [] rest
 unfolding next_record
 comma-read fields cell rest = refl
 
-line-feed : (fields : List (List ℕ)) (cell rest : List ℕ) → next_record default_config st.InField fields cell (10 ∷ rest) ≡ Some (fields ++ cell ∷ [], st.StartRecord, rest)
+pub line-feed : (fields : List (List ℕ)) (cell rest : List ℕ) → next_record default_config st.InField fields cell (10 ∷ rest) ≡ Some (fields ++ cell ∷ [], st.StartRecord, rest)
 unfolding next_record
 line-feed cells cell rest = refl
 
-carriage-return : (fields : List (List ℕ)) (cell rest : List ℕ) → next_record default_config st.InField fields cell (13 ∷ rest) ≡ Some (fields ++ cell ∷ [], st.AfterCr, rest)
+pub carriage-return : (fields : List (List ℕ)) (cell rest : List ℕ) → next_record default_config st.InField fields cell (13 ∷ rest) ≡ Some (fields ++ cell ∷ [], st.AfterCr, rest)
 unfolding next_record
 carriage-return cells cell rest = refl
 
@@ -218,7 +210,7 @@ unfolding records_from next_record
 passed zero rest = refl
 passed (suc n) rest = refl
 
-next-of : (n : ℕ) (text : List ℕ) → records_from default_config (n + 1) st.StartRecord text ≡ records_next (records_from default_config n) (next_record default_config st.StartRecord [] [] text)
+pub next-of : (n : ℕ) (text : List ℕ) → records_from default_config (n + 1) st.StartRecord text ≡ records_next (records_from default_config n) (next_record default_config st.StartRecord [] [] text)
 unfolding records_from
 next-of n text = rw add-one refl
 

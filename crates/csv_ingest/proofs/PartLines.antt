@@ -107,14 +107,14 @@ rows-next k (c ∷ cs) all =
 -- ---- the row of a line
 
 -- what all give, one by one
-all-at : {A B E : Type 0} (f : A → Result B E) (d : A) (e : B) (xs : List A) (ys : List B) → length xs ≡ length ys → ((k : ℕ) → k < length xs → f (get_or xs k d) ≡ Ok (get_or ys k e)) → all_or_first (map f xs) ≡ Ok ys
+pub all-at : {A B E : Type 0} (f : A → Result B E) (d : A) (e : B) (xs : List A) (ys : List B) → length xs ≡ length ys → ((k : ℕ) → k < length xs → f (get_or xs k d) ≡ Ok (get_or ys k e)) → all_or_first (map f xs) ≡ Ok ys
 all-at f d e [] [] same each = refl
 all-at f d e [] (y ∷ ys) same each = absurd (omega (arith, same))
 all-at f d e (x ∷ xs) [] same each = absurd (omega (arith, same))
 all-at f d e (x ∷ xs) (y ∷ ys) same each =
     ap₂ joined (each 0 (omega arith)) (all-at f d e xs ys (omega (arith, same)) (λ k lt. each (suc k) (omega (arith, lt))))
 
-row-by : (many short : Bool) (much wrong : CsvFault) (given : Result (List Value) CsvFault) → many ≡ false → short ≡ false → (if many then Err much else if short then Err wrong else given) ≡ given
+pub row-by : (many short : Bool) (much wrong : CsvFault) (given : Result (List Value) CsvFault) → many ≡ false → short ≡ false → (if many then Err much else if short then Err wrong else given) ≡ given
 row-by many short much wrong given m s = rw (m, s) refl
 
 value-of-field : (row : ℕ) (cells : List (List ℕ)) (field : Field) (place : Option ℕ) (v : Value) → field_value field place cells ≡ Ok v → value_at row cells field place ≡ Ok v
@@ -122,7 +122,7 @@ value-of-field row cells field None v is = ap Ok cc
 value-of-field row cells field (Some column) v is = ap (placed row column) is
 
 -- some field
-a-field : Field
+pub a-field : Field
 a-field = number_field []
 
 no-column : Listed
@@ -241,11 +241,6 @@ module _ (part : Part) (is : IsPart part) (layout : Layout) (l : IsLayout layout
 
 -- ---- the lines of a table
 
-pub part-counts : (fields : List Field) (header : List (List ℕ)) (text : List ℕ) (old new : List Listed) (rows taken : ℕ) → ReadsPart fields header text old new rows taken → All (Counts 0) old → All (Counts rows) new
-part-counts fields header text old new rows taken r counts =
-    let same : 0 + rows ≡ rows = omega arith in
-    subst (λ n. All (Counts n) new) same (r.counts 0 counts)
-
 pub no-lines : (fields : List Field) (header : List (List ℕ)) (before : ℕ) (text : List ℕ) (columns : List Listed) (table : ListedColumns) → All (Counts 0) columns → table ≡ record { columns = columns; count = 0 }
     → AreLines fields header before text table 0
 no-lines fields header before text columns table counts is =
@@ -258,20 +253,6 @@ no-lines fields header before text columns table counts is =
           let none : n + 0 ≡ n = omega arith in
           let same : before ≡ before + 0 = omega arith in
           ap (λ k. given k before) none ∙ after-none (given n before) ∙ ap₂ (λ rows from. after rows (given n from)) (sym (no-rows columns counts)) same;
-    })
-
-pub part-lines : (fields : List Field) (header : List (List ℕ)) (before : ℕ) (text : List ℕ) (old new : List Listed) (rows taken : ℕ) (table : ListedColumns) → ReadsPart fields header text old new rows taken
-    → All (Counts 0) old → before + rows ≤ most_rows (length fields) → table ≡ record { columns = new; count = rows } → AreLines fields header before text table taken
-part-lines fields header before text old new rows taken table r counts room is =
-    subst (λ t. AreLines fields header before text t taken) (sym is)
-    (record {
-      within = r.within;
-      at_end = λ _. r.at_end;
-      each = λ n.
-          let all = rows_from before fields header (records_from default_config (n + rows) st.StartRecord text) in
-          let same : 0 + rows ≡ rows = omega arith in
-          after-none all ∙ ap (λ front. after front all) (sym (no-rows old counts)) ∙ r.each 0 before n counts room
-          ∙ ap (λ k. after (rows_in_columns k new) (rows_from (before + rows) fields header (records_from default_config n st.StartRecord (drop taken text)))) same;
     })
 
 -- a part more

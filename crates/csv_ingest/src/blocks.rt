@@ -16,7 +16,7 @@ ghost use Rattle.csv_ingest.specs.Rows.{header_of, number_rows_in, records_of, r
 
 use crate::first_line::{header_end, header_line};
 use crate::header::{names_in, number_columns};
-use crate::lines::{Lines, read_lines};
+use crate::number_lines::{Lines, read_lines};
 use crate::records::{from_place, next_record, text_reader, unmarked, unmarked_len};
 use crate::rows::{Block, read_block};
 use csv::{ByteRecord, Reader};
@@ -26,7 +26,7 @@ use std::alloc::{AllocError, Global};
 use table_schema::{Field, Schema};
 use values::Columns;
 
-// How many records are read together.
+// How many rows a block has.
 const BLOCK_ROWS: usize = 4_096;
 
 // The most columns that a text of whole numbers may have.
@@ -311,13 +311,13 @@ impl<'a> NumberBlocks<'a> {
         ensures err { IfErr result (λ fault. fault ≢ CsvFault.NoMemory → (whole : RowsOrFault)
             → Gives self.old whole → whole ≡ Err fault) }
     {
-        if self.left == 0 {
+        let room = self.left.min(BLOCK_ROWS);
+        if room == 0 {
             return Ok(None);
         }
-        if let Some(columns) = self.next_lines(alloc, self.left)? {
+        if let Some(columns) = self.next_lines(alloc, room)? {
             return Ok(Some(columns));
         }
-        let room = self.left.min(BLOCK_ROWS);
         match self.next_records(alloc, room) {
             Ok(columns) => Ok(Some(columns)),
             Err(fault) => Err(fault),

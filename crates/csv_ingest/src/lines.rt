@@ -11,10 +11,9 @@ use crate::marks::push_separators;
 use crate::part_columns::push_part;
 use crate::parts::part_of;
 use crate::records::from_place;
-use crate::rows::empty_columns;
 use csv_row::Layout;
 use std::alloc::{AllocError, Global};
-use values::{Column, Columns};
+use values::Column;
 
 // So many bytes are looked at together, and those after them up to the end of a line, if there are
 // no more than so many.
@@ -22,40 +21,8 @@ const PART_BYTES: usize = 49_152;
 
 const MOST_AFTER: usize = 1_048_576;
 
-/// Some rows of a text, and how many of its bytes they are.
-#[derive(Drop)]
-pub struct Lines {
-    pub columns: Columns,
-    pub taken: usize,
-}
-
-/// The rows of some plain lines at the start of a text, after `before` others: at most as many as
-/// there is room for. Each line comes after the end of the one before it.
-pub fn read_lines(
-    alloc: Global,
-    text: &[u8],
-    layout: &Layout,
-    before: usize,
-    room: usize,
-) -> Result<Lines, AllocError>
-    requires { IsLayout layout.now }
-    ensures { IfOk result (λ l. ReadsLines layout.now.fields.now (header_of layout.now) before room
-        text.now l.columns l.taken) }
-{
-    let room = (layout.most as usize).saturating_sub(before).min(room);
-    let mut places = Vec::new(alloc);
-    mark_part(text, &mut places)?;
-    let Some(part) = part_of(text, &places, layout.names.len(), room) else {
-        return no_lines(alloc, layout);
-    };
-    let mut columns = empty_columns(alloc, layout.fields, part.rows)?;
-    if !push_part(part, layout, &mut columns)? {
-        return no_lines(alloc, layout);
-    }
-    let columns = Columns::new(columns, part.rows);
-    let taken = part.len();
-    Ok(Lines { columns, taken })
-}
+// Room for so many places is taken at once.
+const PART_PLACES: usize = 16_384;
 
 /// How many rows were added to columns, and how many bytes of a text they are.
 #[derive(Clone, Copy)]
@@ -80,7 +47,7 @@ pub fn push_lines(
     ensures { IfOk result (λ t. IfSome t (λ taken. AddsLines layout.now.fields.now
         (header_of layout.now) text.now columns.new.items most taken)) }
 {
-    let mut places = Vec::new(alloc);
+    let mut places = Vec::with_capacity(alloc, PART_PLACES)?;
     let mut rows = 0;
     let mut bytes = 0;
     'parts: while rows < most {
@@ -127,16 +94,4 @@ pub fn is_blank(line: &[u8]) -> bool
     ensures { result ≡ false → StartsCell line.now }
 {
     line.is_empty() || line[0] == b'\n' || line[0] == b'\r'
-}
-
-// No rows.
-fn no_lines(alloc: Global, layout: &Layout) -> Result<Lines, AllocError>
-    requires { IsLayout layout.now }
-    ensures { IfOk result (λ l. (before room : ℕ) → (text : List ℕ)
-        → ReadsLines layout.now.fields.now (header_of layout.now) before room text
-        l.columns l.taken) }
-{
-    let columns = empty_columns(alloc, layout.fields, 0)?;
-    let columns = Columns::new(columns, 0);
-    Ok(Lines { columns, taken: 0 })
 }
