@@ -76,11 +76,13 @@ module _ (line : List ℕ → List (List Value) → List ℕ) (table : Table) wh
         let added : new ≡ old ++ own = adds rows (zip_at (HasImage table files) stored segments k (live []) [] all lt) in
         ap (λ l. l ++ rest) added
         ∙ append_assoc old own rest
-        ∙ ap (λ l. old ++ l) (sym (next_line stored segments k lt at_most))
+        ∙ ap (λ l. old ++ l) (sym (next_line (names_of stored) segments k (omega (arith, lt, length-map stored (λ (s : Stored). s.name))) at_most
+        ∙ ap (λ n. line n (ordered table.settings.sorted rows) ++ rest) (get_or-map (λ (s : Stored). s.name) stored k (live []) [] lt)))
         ∙ so segments all
 
-    pub lines_all : (files : Files) (text : List ℕ) → HasLines line table (Some files) stored (length stored) text → (segments : List (List (List Value))) → AllZip (HasImage table files) stored segments → lines_of line stored (in_order table segments) ≡ text
+    pub lines_all : (files : Files) (text : List ℕ) → HasLines line table (Some files) stored (length stored) text → (segments : List (List (List Value))) → AllZip (HasImage table files) stored segments → lines_of line (names_of stored) (in_order table segments) ≡ text
     lines_all files text so segments all =
-        let none : lines_of line (drop (length stored) stored) (drop (length stored) (in_order table segments)) ≡ [] =
-        ap (λ l. lines_of line l (drop (length stored) (in_order table segments))) (drop-length stored) in
+        let none : lines_of line (drop (length stored) (names_of stored)) (drop (length stored) (in_order table segments)) ≡ [] =
+        ap (λ l. lines_of line l (drop (length stored) (in_order table segments)))
+        (ap (λ n. drop n (names_of stored)) (sym (length-map stored (λ (s : Stored). s.name))) ∙ drop-length (names_of stored)) in
         sym (so segments all) ∙ ap (λ l. text ++ l) none ∙ append-nil text

@@ -71,7 +71,7 @@ module _ (query : BoundQuery) (table : Table) (segment : Stored) where
   loaded_one (Some files) head a b within spread logs = λ rows has.
       let os : List (List Value) = ordered table.settings.sorted rows in
       grown_that (EndsBy segment.file (ends_at table segment os)) a b
-      (logs segment.file (ends_at table segment os) within (all_within table segment segment.file (front_of 1 table os) head (sizes_each table segment os) (spread rows has)))
+      (logs segment.file (ends_at table segment os) within (all_within table segment.name segment.file (front_of 1 table os) head (sizes_each table segment os) (spread rows has)))
 
   both_heads : (os : List (List Value)) (x y : List Entry) → All (EndsBy segment.file (ends_at table segment os)) x → All (EndsBy segment.file (ends_at table segment os)) y → All (EndsBy segment.file (ends_at table segment os)) (x ++ y)
   both_heads os x y p q = All-append (EndsBy segment.file (ends_at table segment os)) x y p q
@@ -140,11 +140,6 @@ module _ (query : BoundQuery) (table : Table) (segment : Stored) where
 pub one_less : (query : BoundQuery) (table : Table) (held : Option Files) (segment : Stored) (a b : Option (List Entry)) → LogsOne (ReadsPlanned query table true) table held segment a b → LogsOne (ReadsPlanned query table false) table held segment a b
 one_less query table None segment a b one = λ before entries was now. tt
 one_less query table (Some files) segment a b one = λ before entries was now rows has. planned_less query table segment (ordered table.settings.sorted rows) entries (one before entries was now rows has)
-
--- the head says where the sections are still where more of it is loaded
-pub spread_later : (table : Table) (held : Option Files) (segment : Stored) (old new : Seen) → new.sections ≡ old.sections → IsSpreadIn table held segment old → IsSpreadIn table held segment new
-spread_later table None segment old new same spread = tt
-spread_later table (Some files) segment old new same spread = λ rows has. same ∙ spread rows has
 
 pub err_so : {T E : Type 0} (r : Result T E) (A B : Type 0) → (A → B) → OnErr r A → OnErr r B
 err_so (Ok t) A B f h = tt

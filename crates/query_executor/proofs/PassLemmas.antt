@@ -1,5 +1,5 @@
 -- What a pass is refused by and reads, where its result is handed on, becomes another, or nothing was read.
-use Rattle.std.proofs.Common.{◌≡◌, ◌∙◌, true, false, ℕ, List, Result, Ok, Err, length, refl, sym, ap}
+use Rattle.std.proofs.Common.{◌≡◌, ◌∙◌, ◌<◌, ◌≤◌, [], true, false, ℕ, List, Result, Ok, Err, length, refl, sym, ap, subst, arith}
 use Rattle.outside.specs.Seen.{Seen}
 use Rattle.outside.proofs.ReadLemmas.{on-err}
 use Rattle.table_schema.specs.ValidTable.{IsValidTable}
@@ -20,6 +20,11 @@ use Rattle.segment_reads.proofs.LogLemmas.{entries_none, logs_none}
 use Rattle.query_executor.proofs.OneReads.{one_less}
 use Rattle.segment_reads.proofs.SpanLemmas.{planned_less}
 use Rattle.segment_opening.specs.Calls.{LooksAtHead}
+use Rattle.std.proofs.Math.ListN.{get_or-map}
+use Rattle.std.proofs.lemmas.List.{length-map}
+use Rattle.segment_file.specs.Names.{IsSegmentName}
+use Rattle.segment_head.specs.Stored.{live, names_of, segment_at}
+use Rattle.query_executor.specs.Passes.{AreSegmentsOf}
 use Rattle.query_executor.specs.Passes.{AddsSegment, LooksAtHeads, PassReads, TextReads}
 use Rattle.query_executor.specs.declared.fault.ExecutorFault.{ExecutorFault}
 use Rattle.query_executor.specs.declared.fault.ExecutorFault.TheVariants.{NotASegment, ReadFault, Sql}
@@ -36,6 +41,7 @@ module _ (query : BoundQuery) (table : Table) (segment : Stored) (groups now : K
   adds_failed T U f a b p = record {
     added = tt;
     full = λ e. p.full (ap Err (own_fault U f engine.TooManyGroups e));
+    filled = λ e. p.filled (ap Err (own_fault U f engine.TooManyGroups e));
     bad = λ part e. p.bad part (ap Err (own_fault U f (engine.NotASegment part) e));
     only_reads = reads_failed T U f engine.ReadFault a b p.only_reads;
     log = p.log;
@@ -48,6 +54,7 @@ module _ (query : BoundQuery) (table : Table) (segment : Stored) (groups now : K
   adds_done T U x y a b p = record {
     added = p.added;
     full = λ e. absurd (no_fault U y engine.TooManyGroups e);
+    filled = λ e. absurd (no_fault U y engine.TooManyGroups e);
     bad = λ part e. absurd (no_fault U y (engine.NotASegment part) e);
     only_reads = reads_done T U x y engine.ReadFault a b p.only_reads;
     log = p.log;
@@ -60,6 +67,7 @@ module _ (query : BoundQuery) (table : Table) (segment : Stored) (groups now : K
   adds_lacking T U x r a b is p = record {
     added = fault_ok U r engine.NoMemory _ is;
     full = λ e. absurd (fault_not U r engine.NoMemory engine.TooManyGroups memory_not_full is e);
+    filled = λ e. absurd (fault_not U r engine.NoMemory engine.TooManyGroups memory_not_full is e);
     bad = λ part e. absurd (fault_not U r engine.NoMemory (engine.NotASegment part) (memory_not_bad part) is e);
     only_reads = reads_lacking _ a b (λ e. fault_not U r engine.NoMemory engine.ReadFault memory_not_read is e) (reads_still T x engine.ReadFault a b p.only_reads);
     log = p.log;
@@ -138,7 +146,7 @@ module _ (query : BoundQuery) (table : Table) (stored : List Stored) where
   pub pass_of_text : (sql : List ℕ) → asked table false sql ≡ Ok query → (T : Type 0) (r : Result T ExecutorFault) (a b : Seen) → PassReads query table stored a b r → TextReads table stored sql a b r
   pass_of_text sql is T r a b p = record {
     unread = λ fault none. let both : Ok query ≡ Err fault = sym is ∙ none in absurd cc;
-    bad = p.bad;
+    bad = λ at part e. let (lt, bad) = p.bad at part e in (lt, (query, is, bad));
     only_reads = p.only_reads;
     log = p.log;
     reads = asked_ok r (λ query. LogsEach (ReadsPlanned query table true) table a.held stored (length stored) a.log b.log) (asked table false sql) query is p.reads;
@@ -162,6 +170,15 @@ heads_unread table stored U fault a = record {
   only_reads = reads_unread _ a (λ e. text_not_read_at fault (own_fault U (Sql fault) ReadFault e));
   log = entries_none (λ entry. (segment : Stored) × Contains stored segment × IsHeadRead table a.held segment entry) a.log;
 }
+
+-- ---- what is asked of segments is asked of each
+
+pub named_at : (table : Table) (stored : List Stored) → AreSegmentsOf table (names_of stored) → (at : ℕ) → at < length stored → IsSegmentName (segment_at stored at).name
+named_at table stored of at lt =
+    subst IsSegmentName (get_or-map (λ (s : Stored). s.name) stored at (live [])) (of.named at [] (omega (arith, lt, length-map stored (λ (s : Stored). s.name))))
+
+pub count_most : (table : Table) (stored : List Stored) → AreSegmentsOf table (names_of stored) → length stored ≤ 512
+count_most table stored of = omega (arith, of.at_most, length-map stored (λ (s : Stored). s.name))
 
 -- a want of memory before the first read
 pub heads_lacking : (table : Table) (stored : List Stored) (U : Type 0) (r : Result U ExecutorFault) (a : Seen) → r ≡ Err (Sql NoMemory) → LooksAtHeads table stored a a r

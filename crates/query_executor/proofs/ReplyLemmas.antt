@@ -1,5 +1,5 @@
 -- The reply to a query's text over segments is that of its normal form.
-use Rattle.std.proofs.Common.{◌≡◌, ◌≢◌, ◌∙◌, ℕ, false, List, Option, Some, None, Ok, Err, IfSome, subst, true, cond, nat_lt, length, take, sym, ap, arith}
+use Rattle.std.proofs.Common.{◌≡◌, ◌≢◌, ◌∙◌, ℕ, false, List, map, Option, Some, None, Ok, Err, IfSome, subst, true, cond, nat_lt, length, take, sym, ap, arith}
 use Rattle.outside.specs.Files.{Files}
 use Rattle.values.specs.declared.value.Value.{Value}
 use Rattle.table_schema.specs.declared.query.BoundQuery.{BoundQuery}
@@ -21,7 +21,7 @@ use Rattle.group_table.specs.Shape.{Shape, shape_of}
 use Rattle.broker_merge.specs.Answer.{answer_of, answer_text}
 use Rattle.broker_merge.specs.Reply.{Reply, reply_over}
 use Rattle.scan_engine.specs.Scanned.{selected}
-use Rattle.segment_head.specs.Stored.{HasImage, names_of, stored_rows}
+use Rattle.segment_head.specs.Stored.{HasImage, live, names_of, stored_rows}
 use Rattle.query_executor.specs.Steps.{HasGroups, HaveTooMany, HasLines}
 use Rattle.sql_reply.specs.Asked.{asked}
 use Rattle.query_executor.specs.Explained.{IsExplained, lines_or}

@@ -1,6 +1,7 @@
 -- What is asked of a query over the segments of a table, and what a pass over them gives, is
 -- refused by and reads.
-use Rattle.std.specs.Prelude.{◌≡◌, ◌≤◌, ◌<◌, ◌-◌, true, false, ℕ, Bool, List, [], Option, None, Result, Ok, Err, IfSome, IsErrOf, OnErr, OnOk, length}
+use Rattle.std.specs.Prelude.{◌≡◌, ◌≤◌, ◌<◌, ◌-◌, ◌⊎◌, true, false, ℕ, Bool, List, [], Option, Some, None, Result, Ok, Err, IfSome, IsErrOf, OnErr, OnOk, length}
+use Rattle.std.specs.FinMap as finite
 use Rattle.std.specs.List.{All}
 use Rattle.agg_laws.specs.Numbers.{most_values}
 use Rattle.outside.specs.Files.{Files}
@@ -27,7 +28,9 @@ use Rattle.segment_reads.specs.Logs.{LogsHeadsOf, LogsIn, LogsOf}
 use Rattle.segment_reads.specs.Reads.{LogsEach, LogsOne, ReadsPlanned}
 use Rattle.segment_head.specs.Stored.{HasNoImage, names_of, segment_at}
 use Rattle.segment_head.specs.declared.stored.Stored.{Stored}
-use Rattle.segment_opening.specs.Calls.{HasOpeningIn, IsQueryOnHead}
+use Rattle.segment_opening.specs.Calls.{FailsInHead, HasOpeningIn, IsBadHead, IsOpened, IsQueryOnHead}
+use Rattle.segment_scan.specs.Images.{IsBadIn}
+use Rattle.star_answer.specs.Segments.{IsBadTree}
 use Rattle.query_executor.specs.Lines.{stats_line}
 use Rattle.query_executor.specs.Steps.{AddsStored, HasGroups, HasLines, IsStoredOverfull}
 use Rattle.query_executor.specs.declared.fault.ExecutorFault.{ExecutorFault}
@@ -64,6 +67,33 @@ pub record IsLoadedFor (query : BoundQuery) (table : Table) (head : heads.Seen) 
   pub grouped : AreGroupsLoaded query.groups head
   pub named : picked query table.settings.trees ≡ None → AreNamedLoaded query head
 
+-- ---- why the file of a segment is refused
+
+-- the part fails where rows are read, by a head of the segment's file: of a section that the scan
+-- reads, or of the star-tree that is picked
+abbrev pub FailsInRows : BoundQuery → Table → Option Files → Stored → Part → Type 0
+FailsInRows query table held segment part =
+    (head : heads.Seen) × IsOpened table held segment head
+    × (((picked query table.settings.trees ≡ None) × IsBadIn query table held head part)
+    ⊎ ((tree : ℕ) × (picked query table.settings.trees ≡ Some tree)
+    × IsBadTree query table held head tree part))
+
+-- the part fails in the head of the segment's file or where rows are read, and the file is the
+-- image of no rows
+abbrev pub IsBadPart : BoundQuery → Table → Option Files → Stored → Part → Type 0
+IsBadPart query table held segment part =
+    (FailsInHead table held segment part ⊎ FailsInRows query table held segment part)
+    × IfSome held (λ files. HasNoImage table files segment)
+
+-- the same for the query that a text asks
+abbrev pub IsBadAsked : Table → List ℕ → Option Files → Stored → Part → Type 0
+IsBadAsked table sql held segment part = (query : BoundQuery) × (asked table false sql ≡ Ok query)
+    × IsBadPart query table held segment part
+
+-- the same where plans alone are made, so that no more than the head is looked at
+abbrev pub IsBadPlanned : Table → Option Files → Stored → Part → Type 0
+IsBadPlanned table held segment part = IsBadHead table held segment part
+
 -- ---- one segment
 
 -- the rows of this segment that satisfy the filter were added to the groups, or it is refused so;
@@ -73,8 +103,9 @@ pub record AddsSegment {A : Type 0} (query : BoundQuery) (table : Table) (segmen
   pub added : OnOk result (AddsStored query table old.held segment groups groups_new)
   pub full : result ≡ Err engine.TooManyGroups
       → IsStoredOverfull query table old.held segment groups
+  pub filled : result ≡ Err engine.TooManyGroups → finite.len (groups_in groups_new) ≡ groups.most
   pub bad : (part : Part) → result ≡ Err (engine.NotASegment part)
-      → IfSome old.held (λ files. HasNoImage table files segment)
+      → IsBadPart query table old.held segment part
   pub only_reads : OnlyReads (IsErrOf result engine.ReadFault) old new
   pub log : LogsIn segment.file old.log new.log
   pub reads : OnOk result
@@ -103,8 +134,7 @@ pub record IsPassOver (query : BoundQuery) (table : Table) (held : Option Files)
 pub record PassReads {A : Type 0} (query : BoundQuery) (table : Table) (stored : List Stored)
     (old new : Seen) (result : Result A ExecutorFault) : Type 0 where
   pub bad : (at : ℕ) (part : Part) → result ≡ Err (NotASegment at part)
-      → (at < length stored)
-      × IfSome old.held (λ files. HasNoImage table files (segment_at stored at))
+      → (at < length stored) × IsBadPart query table old.held (segment_at stored at) part
   pub only_reads : OnlyReads (IsErrOf result ReadFault) old new
   pub log : LogsOf stored old.log new.log
   pub reads : OnOk result (LogsEach (ReadsPlanned query table true) table old.held stored
@@ -117,8 +147,7 @@ pub record TextReads {A : Type 0} (table : Table) (stored : List Stored) (sql : 
     (old new : Seen) (result : Result A ExecutorFault) : Type 0 where
   pub unread : (fault : SqlFault) → asked table false sql ≡ Err fault → new ≡ old
   pub bad : (at : ℕ) (part : Part) → result ≡ Err (NotASegment at part)
-      → (at < length stored)
-      × IfSome old.held (λ files. HasNoImage table files (segment_at stored at))
+      → (at < length stored) × IsBadAsked table sql old.held (segment_at stored at) part
   pub only_reads : OnlyReads (IsErrOf result ReadFault) old new
   pub log : LogsOf stored old.log new.log
   pub reads : OnOk result ((query : BoundQuery) → asked table false sql ≡ Ok query
@@ -132,7 +161,6 @@ pub record TextReads {A : Type 0} (table : Table) (stored : List Stored) (sql : 
 pub record LooksAtHeads {A : Type 0} (table : Table) (stored : List Stored) (old new : Seen)
     (result : Result A ExecutorFault) : Type 0 where
   pub bad : (at : ℕ) (part : Part) → result ≡ Err (NotASegment at part)
-      → (at < length stored)
-      × IfSome old.held (λ files. HasNoImage table files (segment_at stored at))
+      → (at < length stored) × IsBadPlanned table old.held (segment_at stored at) part
   pub only_reads : OnlyReads (IsErrOf result ReadFault) old new
   pub log : LogsHeadsOf table old.held stored old.log new.log

@@ -1,10 +1,10 @@
 //! The rows of a segment whose head is loaded are added to the groups of a query.
 ghost use Rattle.std.specs.Prelude.{IfOk};
 ghost use Rattle.outside.specs.Seen.{seen};
-ghost use Rattle.segment_head.specs.Heads.{AreIn};
 ghost use Rattle.segment_head.specs.declared.stored.Stored.{Stored};
 ghost use Rattle.segment_reads.specs.Looked.{IsDoneIn};
-ghost use Rattle.segment_opening.specs.Opened.{IsHeadIn, IsSpreadIn};
+ghost use Rattle.segment_opening.specs.Calls.{IsOpened};
+ghost use Rattle.segment_opening.specs.Opened.{IsHeadIn};
 ghost use Rattle.query_executor.specs.Passes.{AddsSegment, HasRoomFor, IsLoadedFor};
 
 use crate::scanned::{Scanned, nothing};
@@ -28,9 +28,7 @@ pub(crate) fn add_planned<S: Shelf>(
 ) -> Result<Scanned, EngineFault>
     requires room { HasRoomFor query.now groups.old }
     requires loaded { IsLoadedFor query.now table.now head.now }
-    ensures adds { (segment : Stored) → IsHeadIn table.now (S.held shelf.old) segment head.now →
-        IsSpreadIn table.now (S.held shelf.old) segment head.now →
-        AreIn segment.file head.now.sections →
+    ensures adds { (segment : Stored) → IsOpened table.now (S.held shelf.old) segment head.now →
         AddsSegment query.now table.now segment groups.old groups.new
         (seen S.Shelf shelf.old) (seen S.Shelf shelf.new) result }
     ensures done { IfOk result (λ done. (segment : Stored) →

@@ -11,7 +11,7 @@ ghost use Rattle.query_executor.specs.Passes.{AreSegmentsOf, HaveOpenings, IsQue
 ghost use Rattle.query_executor.specs.declared.fault.ExecutorFault.TheVariants.{Sql};
 
 use crate::ExecutorFault;
-use crate::pass::pass_over;
+use crate::pass::{Pass, pass_over};
 use outside::{Bytes, Name, Shelf};
 use segment_head::{Stored, live_segments};
 use sql_reply::{SqlFault, answer, bound_query};
@@ -68,9 +68,11 @@ fn reply_to_bound<S: Shelf>(
     ensures passes { PassReads query.now table.now stored.now
         (seen S.Shelf shelf.old) (seen S.Shelf shelf.new) result }
 {
-    let pass = match pass_over(alloc, shelf, table, stored, query, false) {
-        Ok(pass) => pass,
+    docs_bound_law();
+    let mut pass = Pass::new(alloc, query, false)?;
+    match pass_over(alloc, shelf, table, stored, query, &mut pass) {
+        Ok(()) => {}
         Err(fault) => return Err(fault),
-    };
+    }
     Ok(answer(alloc, query, &pass.groups)?)
 }

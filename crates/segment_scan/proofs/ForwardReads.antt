@@ -19,7 +19,7 @@ use Rattle.segment_file.specs.declared.part.Part.TheVariants.{Forward}
 use Rattle.segment_file.specs.Front.{extents_of}
 use Rattle.segment_head.specs.Heads.{IsHeadOf, IsLoaded, Seen, place_in, placed}
 use Rattle.segment_file.specs.Image.{count_of, front_of}
-use Rattle.segment_file.specs.Image as segment
+use Rattle.segment_file.specs.Image as image
 use Rattle.segment_file.specs.Ordered.{value_in}
 use Rattle.segment_plan.specs.Laws.{TellsOf}
 use Rattle.column_reader.specs.Bytes.{GrowsBy}
@@ -64,7 +64,7 @@ module _ (table : Table) (segment : Stored) (head : Seen) (rows : List (List Val
   width_small : (column : ℕ) → IsLoaded head column → width_in head column ≤ 20
   width_small column loaded =
       let same = count_are table segment head rows sections tells column loaded in
-      let at_most = distinct_few (segment.values_in column rows) in
+      let at_most = distinct_few (image.values_in column rows) in
       let long = length-map rows (value_in column) in
       let many = rows_few table head of_table in
       let count = tells.rows_are in

@@ -30,7 +30,7 @@ use Rattle.segment_file.specs.declared.part.Part.TheVariants as parts
 use Rattle.segment_file.specs.Front.{extents_of}
 use Rattle.segment_head.specs.Heads.{IsLoaded, Seen, place_in, placed}
 use Rattle.segment_file.specs.Image.{count_of, front_of, section_of}
-use Rattle.segment_file.specs.Image as segment
+use Rattle.segment_file.specs.Image as image
 use Rattle.segment_file.specs.Parts.{kind_of}
 use Rattle.segment_plan.specs.Choices.{are_consecutive}
 use Rattle.segment_plan.specs.Laws.{TellsOf}
@@ -70,7 +70,7 @@ some_ids (id ∷ ids) is = omega arith
 -- ---- the sections of an image
 
 module _ (table : Table) (segment : Stored) (head : Seen) (rows : List (List Value)) (sections : head.sections ≡ map (placed segment.file) (extents_of table segment.name (front_of 1 table rows))) (tells : TellsOf table rows head) where
-  pub values_are : (column : ℕ) → IsLoaded head column → values_in head column ≡ distinct (segment.values_in column rows)
+  pub values_are : (column : ℕ) → IsLoaded head column → values_in head column ≡ distinct (image.values_in column rows)
   values_are column loaded = ap values_of loaded.1 ∙ ap (λ d. d.values) (tells.dictionaries_are column loaded.0 loaded.1)
 
   pub count_are : (column : ℕ) → IsLoaded head column → count_in head column ≡ count_of rows column

@@ -1,14 +1,15 @@
-use Rattle.std.proofs.Common.{◌≡◌, ◌∙◌, ◌<◌, [], ℕ, List, IfSome, Err, length, get_or, sym, ap, subst, arith}
+use Rattle.std.proofs.Common.{◌≡◌, ◌∙◌, ◌<◌, [], ℕ, List, Err, length, get_or, sym, ap, subst, arith}
 use Rattle.std.specs.List.{Contains}
 use Rattle.outside.specs.Seen.{Seen, seen}
 use Rattle.segment_head.specs.declared.fault.EngineFault.TheVariants as engine
 use borrow.Author.Count.{below_more, below_none}
-use Rattle.segment_opening.specs.Calls.{HasOpeningIn}
+use Rattle.segment_opening.specs.Calls.{HasOpeningIn, IsBadHead}
 use Rattle.query_executor.specs.Lines.{plan_line}
 use Rattle.segment_reads.specs.Logs.{IsHeadRead}
-use Rattle.segment_head.specs.Stored.{HasNoImage, segment_at}
 use Rattle.query_executor.specs.Steps.{AddsLine, HasLines, fault_at}
 use Rattle.query_executor.specs.declared.fault.ExecutorFault.TheVariants.{NotASegment, ReadFault}
+use Rattle.segment_file.specs.Names.{IsSegmentName}
+use Rattle.query_executor.proofs.PassLemmas.{named_at}
 use Rattle.query_executor.proofs.FaultLemmas.{bad_so, read_so, wrong_so}
 use Rattle.segment_reads.proofs.NameLemmas.{is_at}
 use Rattle.query_executor.proofs.LineLemmas.{lines_more, no_lines}
@@ -16,14 +17,26 @@ use Rattle.segment_reads.proofs.LogLemmas.{entries_none, heads_more, reads_as, r
 use Rattle.query_executor.proofs.EndLemmas.{no_fault}
 use Rattle.query_executor.proofs.explain.explain_bound.Goals as goal
 use Rattle.segment_head.specs.declared.stored.Stored.{Stored}
+use Rattle.segment_head.specs.Stored.{segment_at}
 
 pub stored-init : goal.stored-init
 stored-init g c = record {
-  so_far = subst (HasLines (plan_line c.args.query.now c.args.table.now) c.args.table.now (g.S.Shelf.held c.args.shelf.now) c.args.stored.now 0) (sym c.new-segment.ensures.items) (no_lines (plan_line c.args.query.now c.args.table.now) c.args.table.now c.args.stored.now (g.S.Shelf.held c.args.shelf.now));
+  so_far = subst (HasLines (plan_line c.args.query.now c.args.table.now) c.args.table.now (g.S.Shelf.held c.args.shelf.now) c.args.stored.now 0) (sym c.new-text.ensures.items) (no_lines (plan_line c.args.query.now c.args.table.now) c.args.table.now c.args.stored.now (g.S.Shelf.held c.args.shelf.now));
   opens = below_none (λ k. HasOpeningIn c.args.table.now (g.S.Shelf.held c.args.shelf.now) (segment_at c.args.stored.now k));
   reads = reads_none (seen g.S.Shelf c.args.shelf.now);
   log = entries_none (λ entry. (segment : Stored) × Contains c.args.stored.now segment × IsHeadRead c.args.table.now (g.S.Shelf.held c.args.shelf.now) segment entry) (g.S.Shelf.log c.args.shelf.now);
 }
+
+pub explain_segment-requires : goal.explain_segment-requires
+explain_segment-requires g c =
+    let stored : List Stored = c.args.stored.now in
+    let segment : Stored = c.index-stored-at.result in
+    let lt : c.stored.at < length stored = omega arith in
+    record {
+      valid = c.requires.of_table.valid;
+      name = subst (λ (s : Stored). IsSegmentName s.name) (sym (is_at stored c.stored.at segment lt c.index-stored-at.is)) (named_at c.args.table.now stored c.requires.of_table c.stored.at lt);
+      query = c.requires.query;
+    }
 
 pub stored-preserved : goal.stored-preserved
 stored-preserved g c =
@@ -61,10 +74,10 @@ returns-in-Err-clause-looks g c = record {
       let lt : c.stored.at < length stored = omega arith in
       let named : segment ≡ segment_at stored c.stored.at = is_at stored c.stored.at segment lt c.index-stored-at.is in
       let (at_is, bad) = bad_so _ at c.in-Err.fault part (sym c.fault_at.ensures ∙ cc) in
-      let none : IfSome (g.S.Shelf.held c.args.shelf.now) (λ files. HasNoImage c.args.table.now files (segment_at stored c.stored.at)) =
-      subst (λ segment. IfSome (g.S.Shelf.held c.args.shelf.now) (λ files. HasNoImage c.args.table.now files segment)) named
-      (subst (λ held. IfSome held (λ files. HasNoImage c.args.table.now files segment)) c.stored.invariant.reads.held (c.in-Err.ensures.looks.bad part (ap Err bad))) in
-      (omega (arith, at_is, lt), subst (λ k. IfSome (g.S.Shelf.held c.args.shelf.now) (λ files. HasNoImage c.args.table.now files (segment_at stored k))) at_is none);
+      let own : IsBadHead c.args.table.now (g.S.Shelf.held c.args.shelf.now) (segment_at stored c.stored.at) part =
+      subst (λ segment. IsBadHead c.args.table.now (g.S.Shelf.held c.args.shelf.now) segment part) named
+      (subst (λ held. IsBadHead c.args.table.now held segment part) c.stored.invariant.reads.held (c.in-Err.ensures.looks.bad part (ap Err bad))) in
+      (omega (arith, at_is, lt), subst (λ k. IsBadHead c.args.table.now (g.S.Shelf.held c.args.shelf.now) (segment_at stored k) part) at_is own);
   only_reads =
       let a : Seen = seen g.S.Shelf c.args.shelf.now in
       let b : Seen = seen g.S.Shelf c.stored.shelf in

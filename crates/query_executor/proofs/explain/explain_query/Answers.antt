@@ -15,33 +15,33 @@ use Rattle.query_executor.proofs.PassLemmas.{heads_lacking, heads_unread}
 use Rattle.query_executor.proofs.explain.explain_query.Goals as goal
 
 pub explain_bound-requires : goal.explain_bound-requires
-explain_bound-requires g c = record { of_table = over_live c.args.table.now c.args.names.now c.as_slice.result.now (c.as_slice.ensures.value ∙ c.in_ok-stored.ensures) c.requires; query = c.in-Ok.ensures.valid }
+explain_bound-requires g c = record { of_table = over_live c.args.table.now c.args.names.now c.as_slice.result.now (c.as_slice.ensures.value ∙ c.in_ok-stored-in-Ok.ensures) c.requires; query = c.in-Ok.ensures.valid }
 
-pub returns-in-Ok-clause-reply : goal.returns-in-Ok-clause-reply
-returns-in-Ok-clause-reply g c =
+pub returns-in_ok-stored-in-Ok-clause-reply : goal.returns-in_ok-stored-in-Ok-clause-reply
+returns-in_ok-stored-in-Ok-clause-reply g c =
     let table = c.args.table.now in
     let stored : List Stored = c.as_slice.result.now in
     let held = g.S.Shelf.held c.args.shelf.now in
-    subst (λ l. IfOk c.explain_bound.result (λ text. IfSome held (λ files. IsExplained table files l c.args.sql.now (Ok text)))) (c.as_slice.ensures.value ∙ c.in_ok-stored.ensures)
+    subst (λ l. IfOk c.explain_bound.result (λ text. IfSome held (λ files. IsExplained table files l c.args.sql.now (Ok text)))) (c.as_slice.ensures.value ∙ c.in_ok-stored-in-Ok.ensures)
     (found_so c.explain_bound.result
     (HasLines (plan_line c.in-Ok.bound table) table held stored (length stored))
     (λ text. IfSome held (λ files. IsExplained table files stored c.args.sql.now (Ok text)))
     (all_explained c.in-Ok.bound table stored c.args.sql.now c.in-Ok.ensures.asked held)
     c.explain_bound.ensures.lines)
 
-pub returns-in-Ok-clause-of_text : goal.returns-in-Ok-clause-of_text
-returns-in-Ok-clause-of_text g c = λ fault is real. absurd (real (c.explain_bound.ensures.never_wrong fault is))
+pub returns-in_ok-stored-in-Ok-clause-of_text : goal.returns-in_ok-stored-in-Ok-clause-of_text
+returns-in_ok-stored-in-Ok-clause-of_text g c = λ fault is real. absurd (real (c.explain_bound.ensures.never_wrong fault is))
 
-pub returns-in-Ok-clause-opens : goal.returns-in-Ok-clause-opens
-returns-in-Ok-clause-opens g c =
-    subst (λ l. OnOk c.explain_bound.result (HaveOpenings c.args.table.now (g.S.Shelf.held c.args.shelf.now) l)) (c.as_slice.ensures.value ∙ c.in_ok-stored.ensures) c.explain_bound.ensures.opens
+pub returns-in_ok-stored-in-Ok-clause-opens : goal.returns-in_ok-stored-in-Ok-clause-opens
+returns-in_ok-stored-in-Ok-clause-opens g c =
+    subst (λ l. OnOk c.explain_bound.result (HaveOpenings c.args.table.now (g.S.Shelf.held c.args.shelf.now) l)) (c.as_slice.ensures.value ∙ c.in_ok-stored-in-Ok.ensures) c.explain_bound.ensures.opens
 
-pub returns-in-Ok-clause-looks : goal.returns-in-Ok-clause-looks
-returns-in-Ok-clause-looks g c =
-    subst (λ l. LooksAtHeads c.args.table.now l (seen g.S.Shelf c.args.shelf.now) (seen g.S.Shelf c.explain_bound.new.shelf) c.explain_bound.result) (c.as_slice.ensures.value ∙ c.in_ok-stored.ensures) c.explain_bound.ensures.looks
+pub returns-in_ok-stored-in-Ok-clause-looks : goal.returns-in_ok-stored-in-Ok-clause-looks
+returns-in_ok-stored-in-Ok-clause-looks g c =
+    subst (λ l. LooksAtHeads c.args.table.now l (seen g.S.Shelf c.args.shelf.now) (seen g.S.Shelf c.explain_bound.new.shelf) c.explain_bound.result) (c.as_slice.ensures.value ∙ c.in_ok-stored-in-Ok.ensures) c.explain_bound.ensures.looks
 
-pub returns-in_err-stored : goal.returns-in_err-stored
-returns-in_err-stored g c =
+pub returns-in_err-stored-in-Ok : goal.returns-in_err-stored-in-Ok
+returns-in_err-stored-in-Ok g c =
     let table = c.args.table.now in
     let stored : List Stored = map live c.args.names.now in
     let a : Seen = seen g.S.Shelf c.args.shelf.now in

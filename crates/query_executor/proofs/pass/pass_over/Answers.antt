@@ -1,4 +1,4 @@
-use Rattle.std.proofs.Common.{◌≡◌, ◌∙◌, ◌+◌, ◌*◌, ◌-◌, ◌<◌, [], ℕ, true, false, List, IfSome, Err, length, get_or, sym, ap, subst, arith}
+use Rattle.std.proofs.Common.{◌≡◌, ◌∙◌, ◌+◌, ◌*◌, ◌-◌, ◌<◌, [], ℕ, true, false, List, Err, length, get_or, refl, sym, ap, subst, arith}
 use Rattle.outside.specs.Seen.{Seen, seen}
 use Rattle.agg_laws.specs.Numbers.{most_values}
 use Rattle.segment_head.specs.declared.fault.EngineFault.TheVariants as engine
@@ -9,13 +9,14 @@ use Rattle.scan_engine.specs.Scanned.{HaveAtMost}
 use Rattle.scan_engine.proofs.AddLemmas.{at_most_more}
 use Rattle.sql_reply.proofs.GroupLemmas.{none_fit}
 use Rattle.segment_reads.specs.Logs.{IsFileOf}
-use Rattle.segment_head.specs.Stored.{HasNoImage, segment_at}
 use borrow.Author.Count.{below_more, below_none}
 use Rattle.segment_opening.specs.Calls.{HasOpeningIn}
 use Rattle.query_executor.specs.Lines.{stats_line}
+use Rattle.query_executor.specs.Passes.{IsBadPart}
 use Rattle.query_executor.specs.Steps.{AddsLine, AddsStored, HasGroups, HasLines, IsStoredOverfull, fault_at}
+use Rattle.query_executor.proofs.PassLemmas.{count_most, named_at}
 use Rattle.query_executor.proofs.LineLemmas.{lines_more, no_lines}
-use Rattle.query_executor.specs.declared.fault.ExecutorFault.TheVariants.{NotASegment, ReadFault, Sql}
+use Rattle.query_executor.specs.declared.fault.ExecutorFault.TheVariants.{NotASegment, ReadFault}
 use Rattle.query_executor.proofs.FaultLemmas.{bad_so, read_so, refused_so}
 use Rattle.query_executor.proofs.GroupLemmas.{no_groups, one_more, too_many}
 use Rattle.segment_reads.proofs.NameLemmas.{among, is_at}
@@ -25,20 +26,20 @@ use Rattle.segment_reads.proofs.GrownLemmas.{IsFileBefore, each_as, each_more, e
 use Rattle.segment_reads.proofs.SpanLemmas.{planned_less, planned_of_file}
 use Rattle.query_executor.proofs.Unread.{nothing_read}
 use Rattle.segment_file.specs.Names.{IsSegmentName}
-use Rattle.sql_reply.specs.declared.fault.SqlFault.TheVariants.{NoMemory}
-use Rattle.query_executor.proofs.EndLemmas.{gives_fault, memory_refused, no_fault}
-use Rattle.query_executor.proofs.PassLemmas.{pass_unread}
+use Rattle.sql_reply.specs.declared.fault.SqlFault.TheVariants.{TooManyGroups}
+use Rattle.query_executor.proofs.EndLemmas.{no_fault}
 use Rattle.query_executor.proofs.pass.pass_over.Goals as goal
 use Rattle.segment_head.specs.declared.stored.Stored.{Stored}
+use Rattle.segment_head.specs.Stored.{segment_at}
 
 pub stored-init : goal.stored-init
 stored-init g c = record {
-  of_query = c.in_ok-pass.ensures.groups.of_query;
-  most = c.in_ok-pass.ensures.groups.most_is;
-  fits = subst (λ (groups : Groups). HaveAtMost 0 groups) (sym c.in_ok-pass.ensures.groups.groups_are) (none_fit (shape_of c.args.query.now));
-  so_far = no_groups c.args.query.now c.args.table.now c.args.stored.now (g.S.Shelf.held c.args.shelf.now) c.in_ok-pass.pass.groups c.in_ok-pass.ensures.groups;
-  wants = c.in_ok-pass.ensures.wants;
-  lines = λ wanted. subst (HasLines (stats_line c.args.query.now c.args.table.now) c.args.table.now (g.S.Shelf.held c.args.shelf.now) c.args.stored.now 0) (sym c.in_ok-pass.ensures.lines) (no_lines (stats_line c.args.query.now c.args.table.now) c.args.table.now c.args.stored.now (g.S.Shelf.held c.args.shelf.now));
+  of_query = c.requires.begins.of_query;
+  most = c.requires.begins.most_is;
+  fits = subst (λ (groups : Groups). HaveAtMost 0 groups) (sym c.requires.begins.groups_are) (none_fit (shape_of c.args.query.now));
+  so_far = no_groups c.args.query.now c.args.table.now c.args.stored.now (g.S.Shelf.held c.args.shelf.now) c.args.pass.now.groups c.requires.begins;
+  wants = refl;
+  lines = λ wanted. subst (HasLines (stats_line c.args.query.now c.args.table.now) c.args.table.now (g.S.Shelf.held c.args.shelf.now) c.args.stored.now 0) (sym c.requires.no_lines) (no_lines (stats_line c.args.query.now c.args.table.now) c.args.table.now c.args.stored.now (g.S.Shelf.held c.args.shelf.now));
   opens = below_none (λ k. HasOpeningIn c.args.table.now (g.S.Shelf.held c.args.shelf.now) (segment_at c.args.stored.now k));
   reads = reads_none (seen g.S.Shelf c.args.shelf.now);
   log = logs_none (IsFileOf c.args.stored.now) (g.S.Shelf.log c.args.shelf.now);
@@ -54,13 +55,13 @@ pass_one-requires g c =
     let is : segment ≡ segment_at stored c.stored.at = is_at stored c.stored.at segment lt c.index-stored-at.is in
     record {
       of_table = record {
-        valid = c.requires.of_table.valid;
-        segment = subst IsSegmentName (sym is) (c.requires.of_table.named c.stored.at [] lt);
-        query = c.requires.query;
+        valid = c.requires.over.of_table.valid;
+        name = subst (λ (s : Stored). IsSegmentName s.name) (sym is) (named_at c.args.table.now stored c.requires.over.of_table c.stored.at lt);
+        query = c.requires.over.query;
       };
       room = record {
         of_query = c.stored.invariant.of_query;
-        fits = at_most_more (groups_in c.stored.pass.groups) (c.stored.at * 1048576) (most_values - 1048576) (omega (arith, lt, c.requires.of_table.at_most)) c.stored.invariant.fits;
+        fits = at_most_more (groups_in c.stored.pass.groups) (c.stored.at * 1048576) (most_values - 1048576) (omega (arith, lt, count_most c.args.table.now stored c.requires.over.of_table)) c.stored.invariant.fits;
       };
     }
 
@@ -124,10 +125,10 @@ returns-in-Err-clause-passes g c = record {
       let lt : c.stored.at < length stored = omega arith in
       let named : segment ≡ segment_at stored c.stored.at = is_at stored c.stored.at segment lt c.index-stored-at.is in
       let (at_is, bad) = bad_so _ at c.in-Err.fault part (sym c.fault_at.ensures ∙ cc) in
-      let none : IfSome (g.S.Shelf.held c.args.shelf.now) (λ files. HasNoImage c.args.table.now files (segment_at stored c.stored.at)) =
-      subst (λ segment. IfSome (g.S.Shelf.held c.args.shelf.now) (λ files. HasNoImage c.args.table.now files segment)) named
-      (subst (λ held. IfSome held (λ files. HasNoImage c.args.table.now files segment)) c.stored.invariant.reads.held (c.in-Err.ensures.adds.bad part (ap Err bad))) in
-      (omega (arith, at_is, lt), subst (λ k. IfSome (g.S.Shelf.held c.args.shelf.now) (λ files. HasNoImage c.args.table.now files (segment_at stored k))) at_is none);
+      let own : IsBadPart c.args.query.now c.args.table.now (g.S.Shelf.held c.args.shelf.now) (segment_at stored c.stored.at) part =
+      subst (λ segment. IsBadPart c.args.query.now c.args.table.now (g.S.Shelf.held c.args.shelf.now) segment part) named
+      (subst (λ held. IsBadPart c.args.query.now c.args.table.now held segment part) c.stored.invariant.reads.held (c.in-Err.ensures.adds.bad part (ap Err bad))) in
+      (omega (arith, at_is, lt), subst (λ k. IsBadPart c.args.query.now c.args.table.now (g.S.Shelf.held c.args.shelf.now) (segment_at stored k) part) at_is own);
   only_reads =
       let a : Seen = seen g.S.Shelf c.args.shelf.now in
       let b : Seen = seen g.S.Shelf c.stored.shelf in
@@ -143,7 +144,7 @@ returns-in-Err-clause-passes g c = record {
       let b = g.S.Shelf.log c.stored.shelf in
       let d = g.S.Shelf.log c.pass_one.new.shelf in
       logs_then (IsFileOf stored) (g.S.Shelf.log c.args.shelf.now) b d c.stored.invariant.log
-      (logs_as (λ file. file ≡ segment.file) (IsFileOf stored) b d (λ file e. (segment_at stored c.stored.at, among stored c.stored.at lt, e ∙ ap segment.filed)) c.in-Err.ensures.adds.log);
+      (logs_as (λ file. file ≡ segment.file) (IsFileOf stored) b d (λ file e. (segment_at stored c.stored.at, among stored c.stored.at lt, e ∙ ap (λ (s : Stored). s.file) named)) c.in-Err.ensures.adds.log);
   reads = tt;
   reads_of_fault =
       let a : Seen = seen g.S.Shelf c.args.shelf.now in
@@ -160,15 +161,13 @@ returns-in-Err-clause-passes g c = record {
       let files = entries_then (λ entry. IsFileBefore stored (c.stored.at + 1) entry.file) a.log b.log d.log
       (entries_as (λ entry. IsFileBefore stored c.stored.at entry.file) (λ entry. IsFileBefore stored (c.stored.at + 1) entry.file) a.log b.log (λ entry h. more_before stored c.stored.at entry.file h) c.stored.invariant.files)
       (entries_as (λ entry. entry.file ≡ segment.file) (λ entry. IsFileBefore stored (c.stored.at + 1) entry.file) b.log d.log (λ entry e. this_before stored c.stored.at segment entry.file is e) c.in-Err.ensures.adds.log) in
-      each_rest (ReadsPlanned query table false) table a.held stored (planned_of_file query table false) (c.stored.at + 1) a.log d.log (omega (arith, lt)) (nothing_read c.docs_bound_law.ensures.bound query table c.requires.of_table.valid a.held) files here;
+      each_rest (ReadsPlanned query table false) table a.held stored (planned_of_file query table false) (c.stored.at + 1) a.log d.log (omega (arith, lt)) (nothing_read c.docs_bound_law.ensures.bound query table c.requires.over.of_table.valid a.held) files here;
 }
 
-pub returns-in_err-pass-clause-passes : goal.returns-in_err-pass-clause-passes
-returns-in_err-pass-clause-passes g c =
-    pass_unread c.args.query.now c.args.table.now c.args.stored.now c.docs_bound_law.ensures.bound c.requires.of_table.valid _ c.from_residual.result (seen g.S.Shelf c.args.shelf.now) (gives_fault _ c.from_residual.result (Sql NoMemory) c.from_residual.ensures.1)
-
-pub returns-in_err-pass-clause-refused : goal.returns-in_err-pass-clause-refused
-returns-in_err-pass-clause-refused g c = λ fault e real. absurd (memory_refused _ c.from_residual.result fault (gives_fault _ c.from_residual.result (Sql NoMemory) c.from_residual.ensures.1) e real)
+pub returns-in-Err-clause-filled : goal.returns-in-Err-clause-filled
+returns-in-Err-clause-filled g c = λ most is.
+    let (full, fault_is) = refused_so _ c.in-Err.fault (TooManyGroups most) (sym c.fault_at.ensures ∙ cc) (λ e. absurd cc) in
+    c.in-Err.ensures.adds.filled (ap Err full) ∙ c.stored.invariant.most ∙ sym c.requires.begins.most_is
 
 pub returns-clause-made : goal.returns-clause-made
 returns-clause-made g c = record {
@@ -186,7 +185,7 @@ returns-clause-made g c = record {
 
 pub returns-clause-passes : goal.returns-clause-passes
 returns-clause-passes g c = record {
-  bad = λ at part e. absurd (no_fault _ c.stored.pass (NotASegment at part) e);
+  bad = λ at part e. absurd (no_fault _ tt (NotASegment at part) e);
   only_reads = reads_as (seen g.S.Shelf c.args.shelf.now) (seen g.S.Shelf c.stored.shelf) c.stored.invariant.reads (λ e. absurd cc) (λ e. absurd e);
   log = c.stored.invariant.log;
   reads =

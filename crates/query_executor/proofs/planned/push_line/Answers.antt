@@ -10,8 +10,8 @@ returns c =
     let head = c.args.found.now.head in
     let old : List ℕ = c.args.text.now.items in
     let comma : List ℕ = c.push.new.self.items in
-    line_pushed old c.args.name.now (explained_by query table head) c.extend_from_slice.new.self.items comma c.push_plan.new.text.items c.push-2.new.self.items
-    (c.in_ok-extend_from_slice.ensures.items ∙ ap (λ l. old ++ l) c.as_bytes.ensures.value)
+    line_pushed old c.args.segment.now.name (explained_by query table head) c.extend_from_slice.new.self.items comma c.push_plan.new.text.items c.push-2.new.self.items
+    (c.in_ok-extend_from_slice.ensures.items ∙ ap (λ l. old ++ l) c.as_slice.ensures)
     c.in_ok-push.ensures.items
     (c.in_ok-push_plan.ensures ∙ ap (λ p. comma ++ plan_text query table head p) c.requires.planned)
     c.in_ok-push-2.ensures.items
