@@ -140,11 +140,6 @@ pub one_less : (query : BoundQuery) (table : Table) (held : Option Files) (name 
 one_less query table None name a b one = λ before entries was now. tt
 one_less query table (Some files) name a b one = λ before entries was now rows has. planned_less query table name (ordered table.settings.sorted rows) entries (one before entries was now rows has)
 
--- the head says where the sections are still where more of it is loaded
-pub spread_later : (table : Table) (held : Option Files) (name : List ℕ) (old new : Seen) → new.sections ≡ old.sections → IsSpreadIn table held name old → IsSpreadIn table held name new
-spread_later table None name old new same spread = tt
-spread_later table (Some files) name old new same spread = λ rows has. same ∙ spread rows has
-
 pub err_so : {T E : Type 0} (r : Result T E) (A B : Type 0) → (A → B) → OnErr r A → OnErr r B
 err_so (Ok t) A B f h = tt
 err_so (Err e) A B f h = f h

@@ -35,6 +35,7 @@ module _ (query : BoundQuery) (table : Table) (name : List ℕ) (groups now : Ke
   adds_failed T U f a b p = record {
     added = tt;
     full = λ e. p.full (ap Err (own_fault U f engine.TooManyGroups e));
+    filled = λ e. p.filled (ap Err (own_fault U f engine.TooManyGroups e));
     bad = λ part e. p.bad part (ap Err (own_fault U f (engine.NotASegment part) e));
     only_reads = reads_failed T U f engine.ReadFault a b p.only_reads;
     log = p.log;
@@ -47,6 +48,7 @@ module _ (query : BoundQuery) (table : Table) (name : List ℕ) (groups now : Ke
   adds_done T U x y a b p = record {
     added = p.added;
     full = λ e. absurd (no_fault U y engine.TooManyGroups e);
+    filled = λ e. absurd (no_fault U y engine.TooManyGroups e);
     bad = λ part e. absurd (no_fault U y (engine.NotASegment part) e);
     only_reads = reads_done T U x y engine.ReadFault a b p.only_reads;
     log = p.log;
@@ -59,6 +61,7 @@ module _ (query : BoundQuery) (table : Table) (name : List ℕ) (groups now : Ke
   adds_lacking T U x r a b is p = record {
     added = fault_ok U r engine.NoMemory _ is;
     full = λ e. absurd (fault_not U r engine.NoMemory engine.TooManyGroups memory_not_full is e);
+    filled = λ e. absurd (fault_not U r engine.NoMemory engine.TooManyGroups memory_not_full is e);
     bad = λ part e. absurd (fault_not U r engine.NoMemory (engine.NotASegment part) (memory_not_bad part) is e);
     only_reads = reads_lacking _ a b (λ e. fault_not U r engine.NoMemory engine.ReadFault memory_not_read is e) (reads_still T x engine.ReadFault a b p.only_reads);
     log = p.log;
@@ -137,7 +140,7 @@ module _ (query : BoundQuery) (table : Table) (names : List (List ℕ)) where
   pub pass_of_text : (sql : List ℕ) → asked table false sql ≡ Ok query → (T : Type 0) (r : Result T ExecutorFault) (a b : Seen) → PassReads query table names a b r → TextReads table names sql a b r
   pass_of_text sql is T r a b p = record {
     unread = λ fault none. let both : Ok query ≡ Err fault = sym is ∙ none in absurd cc;
-    bad = p.bad;
+    bad = λ at part e. let (lt, bad) = p.bad at part e in (lt, (query, is, bad));
     only_reads = p.only_reads;
     log = p.log;
     reads = asked_ok r (λ query. LogsEach (ReadsPlanned query table true) table a.held names (length names) a.log b.log) (asked table false sql) query is p.reads;

@@ -1,6 +1,7 @@
 -- What is asked of a query over the segments of a table, and what a pass over them gives, is
 -- refused by and reads.
-use Rattle.std.specs.Prelude.{◌≡◌, ◌≤◌, ◌<◌, ◌-◌, true, false, ℕ, Bool, List, [], Option, None, Result, Ok, Err, IfSome, IsErrOf, OnErr, OnOk, get_or, length}
+use Rattle.std.specs.Prelude.{◌≡◌, ◌≤◌, ◌<◌, ◌-◌, ◌⊎◌, true, false, ℕ, Bool, List, [], Option, Some, None, Result, Ok, Err, IfSome, IsErrOf, OnErr, OnOk, get_or, length}
+use Rattle.std.specs.FinMap as finite
 use Rattle.std.specs.List.{All}
 use Rattle.agg_laws.specs.Numbers.{most_values}
 use Rattle.outside.specs.Files.{Files}
@@ -26,7 +27,9 @@ use Rattle.sql_reply.specs.declared.fault.SqlFault.{SqlFault}
 use Rattle.segment_reads.specs.Logs.{LogsHeadsOf, LogsIn, LogsOf}
 use Rattle.segment_reads.specs.Reads.{LogsEach, LogsOne, ReadsPlanned}
 use Rattle.segment_head.specs.Stored.{HasNoImage}
-use Rattle.segment_opening.specs.Calls.{HasOpeningIn, IsQueryOnHead}
+use Rattle.segment_opening.specs.Calls.{FailsInHead, HasOpeningIn, IsBadHead, IsOpened, IsQueryOnHead}
+use Rattle.segment_scan.specs.Images.{IsBadIn}
+use Rattle.star_answer.specs.Segments.{IsBadTree}
 use Rattle.query_executor.specs.Lines.{stats_line}
 use Rattle.query_executor.specs.Steps.{AddsStored, HasGroups, HasLines, IsStoredOverfull}
 use Rattle.query_executor.specs.declared.fault.ExecutorFault.{ExecutorFault}
@@ -63,6 +66,33 @@ pub record IsLoadedFor (query : BoundQuery) (table : Table) (head : heads.Seen) 
   pub grouped : AreGroupsLoaded query.groups head
   pub named : picked query table.settings.trees ≡ None → AreNamedLoaded query head
 
+-- ---- why the file of a segment is refused
+
+-- the part fails where rows are read, by a head of the segment's file: of a section that the scan
+-- reads, or of the star-tree that is picked
+abbrev pub FailsInRows : BoundQuery → Table → Option Files → List ℕ → Part → Type 0
+FailsInRows query table held name part =
+    (head : heads.Seen) × IsOpened table held name head
+    × (((picked query table.settings.trees ≡ None) × IsBadIn query table held head part)
+    ⊎ ((tree : ℕ) × (picked query table.settings.trees ≡ Some tree)
+    × IsBadTree query table held head tree part))
+
+-- the part fails in the head of the segment's file or where rows are read, and the file is the
+-- image of no rows
+abbrev pub IsBadPart : BoundQuery → Table → Option Files → List ℕ → Part → Type 0
+IsBadPart query table held name part =
+    (FailsInHead table held name part ⊎ FailsInRows query table held name part)
+    × IfSome held (λ files. HasNoImage table files name)
+
+-- the same for the query that a text asks
+abbrev pub IsBadAsked : Table → List ℕ → Option Files → List ℕ → Part → Type 0
+IsBadAsked table sql held name part = (query : BoundQuery) × (asked table false sql ≡ Ok query)
+    × IsBadPart query table held name part
+
+-- the same where plans alone are made, so that no more than the head is looked at
+abbrev pub IsBadPlanned : Table → Option Files → List ℕ → Part → Type 0
+IsBadPlanned table held name part = IsBadHead table held name part
+
 -- ---- one segment
 
 -- the rows of the segment of this name that satisfy the filter were added to the groups, or it is
@@ -71,8 +101,9 @@ pub record AddsSegment {A : Type 0} (query : BoundQuery) (table : Table) (name :
     (groups groups_new : KeptGroups) (old new : Seen) (result : Result A EngineFault) : Type 0 where
   pub added : OnOk result (AddsStored query table old.held name groups groups_new)
   pub full : result ≡ Err engine.TooManyGroups → IsStoredOverfull query table old.held name groups
+  pub filled : result ≡ Err engine.TooManyGroups → finite.len (groups_in groups_new) ≡ groups.most
   pub bad : (part : Part) → result ≡ Err (engine.NotASegment part)
-      → IfSome old.held (λ files. HasNoImage table files name)
+      → IsBadPart query table old.held name part
   pub only_reads : OnlyReads (IsErrOf result engine.ReadFault) old new
   pub log : LogsIn (file_of name) old.log new.log
   pub reads : OnOk result
@@ -101,7 +132,7 @@ pub record IsPassOver (query : BoundQuery) (table : Table) (held : Option Files)
 pub record PassReads {A : Type 0} (query : BoundQuery) (table : Table) (names : List (List ℕ))
     (old new : Seen) (result : Result A ExecutorFault) : Type 0 where
   pub bad : (at : ℕ) (part : Part) → result ≡ Err (NotASegment at part)
-      → (at < length names) × IfSome old.held (λ files. HasNoImage table files (get_or names at []))
+      → (at < length names) × IsBadPart query table old.held (get_or names at []) part
   pub only_reads : OnlyReads (IsErrOf result ReadFault) old new
   pub log : LogsOf names old.log new.log
   pub reads : OnOk result (LogsEach (ReadsPlanned query table true) table old.held names
@@ -114,7 +145,7 @@ pub record TextReads {A : Type 0} (table : Table) (names : List (List ℕ)) (sql
     (old new : Seen) (result : Result A ExecutorFault) : Type 0 where
   pub unread : (fault : SqlFault) → asked table false sql ≡ Err fault → new ≡ old
   pub bad : (at : ℕ) (part : Part) → result ≡ Err (NotASegment at part)
-      → (at < length names) × IfSome old.held (λ files. HasNoImage table files (get_or names at []))
+      → (at < length names) × IsBadAsked table sql old.held (get_or names at []) part
   pub only_reads : OnlyReads (IsErrOf result ReadFault) old new
   pub log : LogsOf names old.log new.log
   pub reads : OnOk result ((query : BoundQuery) → asked table false sql ≡ Ok query
@@ -128,6 +159,6 @@ pub record TextReads {A : Type 0} (table : Table) (names : List (List ℕ)) (sql
 pub record LooksAtHeads {A : Type 0} (table : Table) (names : List (List ℕ)) (old new : Seen)
     (result : Result A ExecutorFault) : Type 0 where
   pub bad : (at : ℕ) (part : Part) → result ≡ Err (NotASegment at part)
-      → (at < length names) × IfSome old.held (λ files. HasNoImage table files (get_or names at []))
+      → (at < length names) × IsBadPlanned table old.held (get_or names at []) part
   pub only_reads : OnlyReads (IsErrOf result ReadFault) old new
   pub log : LogsHeadsOf table old.held names old.log new.log

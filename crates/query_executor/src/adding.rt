@@ -1,10 +1,9 @@
 //! The rows of a segment whose head is loaded are added to the groups of a query.
 ghost use Rattle.std.specs.Prelude.{IfOk, List, ℕ};
 ghost use Rattle.outside.specs.Seen.{seen};
-ghost use Rattle.segment_file.specs.Names.{file_of};
-ghost use Rattle.segment_head.specs.Heads.{AreIn};
 ghost use Rattle.segment_reads.specs.Looked.{IsDoneIn};
-ghost use Rattle.segment_opening.specs.Opened.{IsHeadIn, IsSpreadIn};
+ghost use Rattle.segment_opening.specs.Calls.{IsOpened};
+ghost use Rattle.segment_opening.specs.Opened.{IsHeadIn};
 ghost use Rattle.query_executor.specs.Passes.{AddsSegment, HasRoomFor, IsLoadedFor};
 
 use crate::scanned::{Scanned, nothing};
@@ -28,9 +27,7 @@ pub(crate) fn add_planned<S: Shelf>(
 ) -> Result<Scanned, EngineFault>
     requires room { HasRoomFor query.now groups.old }
     requires loaded { IsLoadedFor query.now table.now head.now }
-    ensures adds { (name : List ℕ) → IsHeadIn table.now (S.held shelf.old) name head.now →
-        IsSpreadIn table.now (S.held shelf.old) name head.now →
-        AreIn (file_of name) head.now.sections →
+    ensures adds { (name : List ℕ) → IsOpened table.now (S.held shelf.old) name head.now →
         AddsSegment query.now table.now name groups.old groups.new
         (seen S.Shelf shelf.old) (seen S.Shelf shelf.new) result }
     ensures done { IfOk result (λ done. (name : List ℕ) →

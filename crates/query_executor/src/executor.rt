@@ -10,7 +10,7 @@ ghost use Rattle.query_executor.specs.Passes.{AreSegmentsOf, HaveOpenings, IsQue
 ghost use Rattle.query_executor.specs.declared.fault.ExecutorFault.TheVariants.{Sql};
 
 use crate::ExecutorFault;
-use crate::pass::pass_over;
+use crate::pass::{Pass, pass_over};
 use outside::{Bytes, Name, Shelf};
 use sql_reply::{SqlFault, answer, bound_query};
 use star_answer::docs_bound_law;
@@ -63,9 +63,11 @@ fn reply_to_bound<S: Shelf>(
     ensures passes { PassReads query.now table.now names.now
         (seen S.Shelf shelf.old) (seen S.Shelf shelf.new) result }
 {
-    let pass = match pass_over(alloc, shelf, table, names, query, false) {
-        Ok(pass) => pass,
+    docs_bound_law();
+    let mut pass = Pass::new(alloc, query, false)?;
+    match pass_over(alloc, shelf, table, names, query, &mut pass) {
+        Ok(()) => {}
         Err(fault) => return Err(fault),
-    };
+    }
     Ok(answer(alloc, query, &pass.groups)?)
 }

@@ -1,8 +1,9 @@
 //! A pass over the segments of a table: their rows are added to the groups of a query, and a line
 //! is made for each where that is wanted.
-ghost use Rattle.std.specs.Prelude.{◌≡◌, ◌≢◌, ◌++◌, true, [], Err, IfOk, OnOk};
+ghost use Rattle.std.specs.Prelude.{◌≡◌, ◌≢◌, ◌++◌, ℕ, true, [], Err, IfOk, OnOk};
+ghost use Rattle.std.specs.FinMap as finite;
 ghost use Rattle.outside.specs.Seen.{seen};
-ghost use Rattle.group_table.specs.Kept.{IsNew};
+ghost use Rattle.group_table.specs.Kept.{IsNew, groups_in};
 ghost use Rattle.sql_reply.specs.Reply.{most_groups};
 ghost use Rattle.sql_reply.specs.declared.fault.SqlFault.{SqlFault};
 ghost use Rattle.sql_reply.specs.declared.fault.SqlFault.TheVariants.{NoMemory, TooManyGroups};
@@ -52,35 +53,38 @@ impl Pass {
     }
 }
 
-/// The groups of a query over the rows of the segments of these names, one after the other, and
-/// the line of each where that is wanted.
+/// Adds the rows of the segments of these names to the groups of a query, one segment after the
+/// other, and the line of each where that is wanted.
 pub(crate) fn pass_over<S: Shelf>(
     alloc: Global,
     shelf: &mut S,
     table: &Table,
     names: &[Name],
     query: &BoundQuery,
-    wants_lines: bool,
-) -> Result<Pass, ExecutorFault>
-    requires { IsQueryOver query.now table.now names.now }
-    ensures made { IfOk result (λ pass. IsPassOver query.now table.now (S.held shelf.old) names.now
-        wants_lines pass.groups pass.lines.items) }
+    pass: &mut Pass,
+) -> Result<(), ExecutorFault>
+    requires over { IsQueryOver query.now table.now names.now }
+    requires begins { IsNew query.now most_groups pass.old.groups }
+    requires no_lines { pass.old.lines.items ≡ [] }
+    ensures made { OnOk result (IsPassOver query.now table.now (S.held shelf.old) names.now
+        pass.old.wants_lines pass.new.groups pass.new.lines.items) }
     ensures refused { (fault : SqlFault) → result ≡ Err (Sql fault) → fault ≢ NoMemory →
         (fault ≡ TooManyGroups most_groups)
         × HaveTooMany query.now table.now (S.held shelf.old) names.now most_groups }
+    ensures filled { (most : ℕ) → result ≡ Err (Sql (TooManyGroups most)) →
+        finite.len (groups_in pass.new.groups) ≡ pass.old.groups.most }
     ensures opens { OnOk result (HaveOpenings table.now (S.held shelf.old) names.now) }
     ensures passes { PassReads query.now table.now names.now
         (seen S.Shelf shelf.old) (seen S.Shelf shelf.new) result }
 {
     docs_bound_law();
-    let mut pass = Pass::new(alloc, query, wants_lines)?;
     'names: for at in 0..names.len() {
-        match pass_one(alloc, shelf, table, names[at].as_str(), query, &mut pass) {
+        match pass_one(alloc, shelf, table, names[at].as_str(), query, pass) {
             Ok(()) => {}
             Err(fault) => return Err(fault_at(at as u32, fault)),
         }
     }
-    Ok(pass)
+    Ok(())
 }
 
 // Adds the rows of the segment of this name, and its line where that is wanted.

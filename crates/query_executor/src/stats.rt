@@ -11,7 +11,7 @@ ghost use Rattle.query_executor.specs.Stated.{IsBoundStated, IsStated};
 ghost use Rattle.query_executor.specs.declared.fault.ExecutorFault.TheVariants.{Sql};
 
 use crate::ExecutorFault;
-use crate::pass::pass_over;
+use crate::pass::{Pass, pass_over};
 use outside::{Bytes, Name, Seq, Shelf};
 use sql_reply::{SqlFault, answer, bound_query};
 use star_answer::docs_bound_law;
@@ -64,10 +64,12 @@ fn stats_of_bound<S: Shelf>(
     ensures passes { PassReads query.now table.now names.now
         (seen S.Shelf shelf.old) (seen S.Shelf shelf.new) result }
 {
-    let pass = match pass_over(alloc, shelf, table, names, query, true) {
-        Ok(pass) => pass,
+    docs_bound_law();
+    let mut pass = Pass::new(alloc, query, true)?;
+    match pass_over(alloc, shelf, table, names, query, &mut pass) {
+        Ok(()) => {}
         Err(fault) => return Err(fault),
-    };
+    }
     let reply = answer(alloc, query, &pass.groups)?;
     Ok(with_lines(reply, pass.lines.as_slice())?)
 }

@@ -92,9 +92,10 @@ returns-in_err-plan g c =
     let a : outside.Seen = seen g.S.Shelf c.args.shelf.now in
     let is = gives_fault _ r engine.NoMemory c.from_residual.ensures.1 in
     record {
-      adds = λ name in_file spread inside. record {
+      adds = λ name o. record {
         added = fault_ok _ r engine.NoMemory _ is;
         full = λ e. absurd (fault_not _ r engine.NoMemory engine.TooManyGroups memory_not_full is e);
+        filled = λ e. absurd (fault_not _ r engine.NoMemory engine.TooManyGroups memory_not_full is e);
         bad = λ part e. absurd (fault_not _ r engine.NoMemory (engine.NotASegment part) (memory_not_bad part) is e);
         only_reads = reads_unread _ a (λ e. fault_not _ r engine.NoMemory engine.ReadFault memory_not_read is e);
         log = logs_none (λ other. other ≡ file_of name) a.log;
@@ -118,9 +119,10 @@ returns-in-Ok g c =
     let named = c.requires.loaded.named (scan_unpicked query table head plan planned) in
     let chosen = scan_planned query table head plan planned in
     record {
-      adds = λ name is spread inside. record {
+      adds = λ name o. let is = o.image in let spread = o.spread in let inside = o.placed in record {
         added = adds_scanned query table name head a.held c.args.groups.now c.scan_segment.new.groups c.requires.loaded.asked.of_table c.in-Ok.ensures.ok is;
         full = λ e. absurd (no_fault _ _ engine.TooManyGroups e);
+        filled = λ e. absurd (no_fault _ _ engine.TooManyGroups e);
         bad = λ part e. absurd (no_fault _ _ (engine.NotASegment part) e);
         only_reads = reads_done _ _ docs _ engine.ReadFault a b c.in-Ok.ensures.reads.only_reads;
         log = scan_in_file query table head (file_of name) inside a.held c.requires.loaded.asked.of_table named _ a.log b.log c.in-Ok.ensures.reads.log;
@@ -147,10 +149,13 @@ returns-in-Err g c =
     let named = c.requires.loaded.named (scan_unpicked query table head plan planned) in
     let chosen = scan_planned query table head plan planned in
     record {
-      adds = λ name is spread inside. record {
+      adds = λ name o. let is = o.image in let spread = o.spread in let inside = o.placed in record {
         added = tt;
         full = λ e. overfull_scanned query table name head a.held c.args.groups.now (c.in-Err.ensures.full (ap Err (own_fault _ fault engine.TooManyGroups e))) is;
-        bad = λ part e. bad_scanned query table name head a.held part (c.in-Err.ensures.bad part (ap Err (own_fault _ fault (engine.NotASegment part) e))) is;
+        filled = λ e. c.in-Err.ensures.filled (ap Err (own_fault _ fault engine.TooManyGroups e));
+        bad = λ part e.
+            let bad = c.in-Err.ensures.bad part (ap Err (own_fault _ fault (engine.NotASegment part) e)) in
+            (inr (head, o, inl (scan_unpicked query table head plan planned, bad)), bad_scanned query table name head a.held part bad is);
         only_reads = reads_failed _ _ fault engine.ReadFault a b c.in-Err.ensures.reads.only_reads;
         log = scan_partly query table head (file_of name) inside a.held c.requires.loaded.asked.of_table named a.log b.log c.in-Err.ensures.reads.log_of_fault;
         reads = tt;
@@ -171,9 +176,10 @@ returns-in-Pruned g c =
     let all : (name : List ℕ) → IsHeadIn table a.held name head → IsDoneIn query table a.held name c.nothing.result.plan c.nothing.result.docs =
     λ name is. none_done query table c.head_tells_law.ensures c.plan_over_law.ensures c.requires.loaded.asked.valid c.requires.loaded.asked.query a.held name head c.nothing.result.plan Pruned c.nothing.result.docs c.nothing.ensures.plan planned (inr c.requires.loaded.filtered) (λ rows. refl) c.nothing.ensures.none is in
     record {
-      adds = λ name is spread inside. record {
+      adds = λ name o. let is = o.image in let spread = o.spread in let inside = o.placed in record {
         added = adds_none query table name head c.head_tells_law.ensures c.requires.loaded.asked.valid a.held c.args.groups.now c.requires.room.of_query (λ rows tells. c.pruned_law.ensures query table rows head tells (is_pruned_so query table head planned)) is;
         full = λ e. absurd (no_fault _ _ engine.TooManyGroups e);
+        filled = λ e. absurd (no_fault _ _ engine.TooManyGroups e);
         bad = λ part e. absurd (no_fault _ _ (engine.NotASegment part) e);
         only_reads = reads_unread _ a (λ e. no_fault _ _ engine.ReadFault e);
         log = logs_none (λ other. other ≡ file_of name) a.log;
@@ -193,9 +199,10 @@ returns-in-Empty g c =
     let all : (name : List ℕ) → IsHeadIn table a.held name head → IsDoneIn query table a.held name c.nothing-in-Empty.result.plan c.nothing-in-Empty.result.docs =
     λ name is. none_done query table c.head_tells_law.ensures c.plan_over_law.ensures c.requires.loaded.asked.valid c.requires.loaded.asked.query a.held name head c.nothing-in-Empty.result.plan Empty c.nothing-in-Empty.result.docs c.nothing-in-Empty.ensures.plan planned (inr c.requires.loaded.filtered) (λ rows. refl) c.nothing-in-Empty.ensures.none is in
     record {
-      adds = λ name is spread inside. record {
+      adds = λ name o. let is = o.image in let spread = o.spread in let inside = o.placed in record {
         added = adds_none query table name head c.head_tells_law.ensures c.requires.loaded.asked.valid a.held c.args.groups.now c.requires.room.of_query (λ rows tells. c.empty_law.ensures query.conjuncts table rows head tells c.requires.loaded.filtered (is_empty_so query table head planned)) is;
         full = λ e. absurd (no_fault _ _ engine.TooManyGroups e);
+        filled = λ e. absurd (no_fault _ _ engine.TooManyGroups e);
         bad = λ part e. absurd (no_fault _ _ (engine.NotASegment part) e);
         only_reads = reads_unread _ a (λ e. no_fault _ _ engine.ReadFault e);
         log = logs_none (λ other. other ≡ file_of name) a.log;
@@ -217,9 +224,10 @@ returns-in-Ok-answer_segment g c =
     let within = picked_within query table.settings.trees tree (tree_planned query table head tree planned) in
     let docs = c.in-Ok-answer_segment.read in
     record {
-      adds = λ name is spread inside. record {
+      adds = λ name o. let is = o.image in let spread = o.spread in let inside = o.placed in record {
         added = adds_answered query table name head a.held c.args.groups.now c.answer_segment.new.groups c.requires.loaded.asked.of_table c.in-Ok-answer_segment.ensures.ok is;
         full = λ e. absurd (no_fault _ _ engine.TooManyGroups e);
+        filled = λ e. absurd (no_fault _ _ engine.TooManyGroups e);
         bad = λ part e. absurd (no_fault _ _ (engine.NotASegment part) e);
         only_reads = reads_as a b c.in-Ok-answer_segment.ensures.only_reads (λ e. absurd (no_fault _ _ engine.ReadFault e)) (λ e. absurd (no_fault _ docs engine.ReadFault e));
         log = answer_in_file table c.requires.loaded.asked.valid head c.requires.loaded.asked.of_table (file_of name) inside query a.held tree docs a.log b.log within c.in-Ok-answer_segment.ensures.log;
@@ -244,14 +252,15 @@ returns-in-Err-answer_segment g c =
     let within = picked_within query table.settings.trees tree (tree_planned query table head tree planned) in
     let fault = c.in-Err-answer_segment.fault in
     record {
-      adds = λ name is spread inside. record {
+      adds = λ name o. let is = o.image in let spread = o.spread in let inside = o.placed in record {
         added = tt;
         full = λ e.
             overfull_answered query table name head a.held c.args.groups.now
             (c.in-Err-answer_segment.ensures.full (ap Err (own_fault _ fault engine.TooManyGroups e))) is;
+        filled = λ e. c.in-Err-answer_segment.ensures.filled (ap Err (own_fault _ fault engine.TooManyGroups e));
         bad = λ part e.
-            bad_answered query table name head a.held
-            (c.in-Err-answer_segment.ensures.bad part (ap Err (own_fault _ fault (engine.NotASegment part) e))).1 is;
+            let bad = c.in-Err-answer_segment.ensures.bad part (ap Err (own_fault _ fault (engine.NotASegment part) e)) in
+            (inr (head, o, inr (tree, tree_planned query table head tree planned, bad)), bad_answered query table name head a.held bad.1 is);
         only_reads = reads_failed _ _ fault engine.ReadFault a b c.in-Err-answer_segment.ensures.only_reads;
         log = answer_partly table c.requires.loaded.asked.valid head c.requires.loaded.asked.of_table (file_of name) inside query a.held tree a.log b.log within c.in-Err-answer_segment.ensures.log_of_fault;
         reads = tt;

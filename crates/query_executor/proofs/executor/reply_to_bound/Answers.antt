@@ -5,7 +5,7 @@ use Rattle.query_executor.specs.Answers.{IsBoundReply}
 use Rattle.query_executor.specs.Passes.{HaveOpenings}
 use Rattle.query_executor.specs.declared.fault.ExecutorFault.TheVariants.{Sql}
 use Rattle.query_executor.proofs.EndLemmas.{fault_if, fault_ok, gives_fault, memory_refused, no_fault, own_fault}
-use Rattle.query_executor.proofs.PassLemmas.{pass_done, pass_failed, pass_lacking}
+use Rattle.query_executor.proofs.PassLemmas.{pass_done, pass_failed, pass_lacking, pass_unread}
 use Rattle.query_executor.proofs.ReplyLemmas.{all_answered, groups_no_text, too_many_refused}
 use Rattle.query_executor.proofs.executor.reply_to_bound.Goals as goal
 
@@ -14,6 +14,28 @@ answer-requires g c = record {
   table = c.in-Ok.ensures.made.of_query;
   valid = (c.args.table.now, c.requires.query);
   most = c.in-Ok.ensures.made.most;
+}
+
+pub returns-in_err-pass : goal.returns-in_err-pass
+returns-in_err-pass g c =
+    let query = c.args.query.now in
+    let table = c.args.table.now in
+    let names : List (List ℕ) = c.args.names.now in
+    let a : Seen = seen g.S.Shelf c.args.shelf.now in
+    let r = c.from_residual.result in
+    let is = gives_fault _ r (Sql NoMemory) c.from_residual.ensures.1 in
+    record {
+      reply = fault_if _ r (Sql NoMemory) _ is;
+      refused = λ fault e real. absurd (memory_refused _ r fault is e real);
+      opens = fault_ok _ r (Sql NoMemory) (HaveOpenings table a.held names) is;
+      passes = pass_unread query table names c.docs_bound_law.ensures.bound c.requires.of_table.valid _ r a is;
+    }
+
+pub pass_over-requires : goal.pass_over-requires
+pass_over-requires g c = record {
+  over = c.requires;
+  begins = c.in_ok-pass.ensures.groups;
+  no_lines = c.in_ok-pass.ensures.lines;
 }
 
 pub returns-in-Err : goal.returns-in-Err
@@ -40,13 +62,13 @@ returns-in_err-answer g c =
     let names : List (List ℕ) = c.args.names.now in
     let a : Seen = seen g.S.Shelf c.args.shelf.now in
     let b : Seen = seen g.S.Shelf c.pass_over.new.shelf in
-    let r = c.from_residual.result in
-    let is = gives_fault _ r (Sql NoMemory) c.from_residual.ensures.1 in
+    let r = c.from_residual-in_err-answer.result in
+    let is = gives_fault _ r (Sql NoMemory) c.from_residual-in_err-answer.ensures.1 in
     record {
       reply = fault_if _ r (Sql NoMemory) _ is;
       refused = λ fault e real. absurd (memory_refused _ r fault is e real);
       opens = fault_ok _ r (Sql NoMemory) (HaveOpenings table a.held names) is;
-      passes = pass_lacking query table names _ _ c.in-Ok.pass r a b is c.in-Ok.ensures.passes;
+      passes = pass_lacking query table names _ _ tt r a b is c.in-Ok.ensures.passes;
     }
 
 pub returns : goal.returns
@@ -57,8 +79,8 @@ returns g c =
     let a : Seen = seen g.S.Shelf c.args.shelf.now in
     let b : Seen = seen g.S.Shelf c.pass_over.new.shelf in
     record {
-      reply = all_answered query table names a.held c.in-Ok.pass.groups _ c.in-Ok.ensures.made.groups c.in_ok-answer.ensures;
+      reply = all_answered query table names a.held c.pass_over.new.pass.groups _ c.in-Ok.ensures.made.groups c.in_ok-answer.ensures;
       refused = λ fault e real. absurd (no_fault _ _ (Sql fault) e);
       opens = c.in-Ok.ensures.opens;
-      passes = pass_done query table names _ _ c.in-Ok.pass _ a b c.in-Ok.ensures.passes;
+      passes = pass_done query table names _ _ tt _ a b c.in-Ok.ensures.passes;
     }

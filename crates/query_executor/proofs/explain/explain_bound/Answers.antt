@@ -1,12 +1,11 @@
-use Rattle.std.proofs.Common.{◌≡◌, ◌∙◌, ◌<◌, [], ℕ, List, IfSome, Err, length, get_or, sym, ap, subst, arith}
+use Rattle.std.proofs.Common.{◌≡◌, ◌∙◌, ◌<◌, [], ℕ, List, Err, length, get_or, sym, ap, subst, arith}
 use Rattle.std.specs.List.{Contains}
 use Rattle.outside.specs.Seen.{Seen, seen}
 use Rattle.segment_head.specs.declared.fault.EngineFault.TheVariants as engine
 use borrow.Author.Count.{below_more, below_none}
-use Rattle.segment_opening.specs.Calls.{HasOpeningIn}
+use Rattle.segment_opening.specs.Calls.{HasOpeningIn, IsBadHead}
 use Rattle.query_executor.specs.Lines.{plan_line}
 use Rattle.segment_reads.specs.Logs.{IsHeadRead}
-use Rattle.segment_head.specs.Stored.{HasNoImage}
 use Rattle.query_executor.specs.Steps.{AddsLine, HasLines, fault_at}
 use Rattle.query_executor.specs.declared.fault.ExecutorFault.TheVariants.{NotASegment, ReadFault}
 use Rattle.query_executor.proofs.FaultLemmas.{bad_so, read_so, wrong_so}
@@ -60,10 +59,10 @@ returns-in-Err-clause-looks g c = record {
       let lt : c.names.at < length names = omega arith in
       let named : text ≡ get_or names c.names.at [] = is_named names c.names.at text c.index-names-at.result lt c.as_str.ensures c.index-names-at.is in
       let (at_is, bad) = bad_so _ at c.in-Err.fault part (sym c.fault_at.ensures ∙ cc) in
-      let none : IfSome (g.S.Shelf.held c.args.shelf.now) (λ files. HasNoImage c.args.table.now files (get_or names c.names.at [])) =
-      subst (λ name. IfSome (g.S.Shelf.held c.args.shelf.now) (λ files. HasNoImage c.args.table.now files name)) named
-      (subst (λ held. IfSome held (λ files. HasNoImage c.args.table.now files text)) c.names.invariant.reads.held (c.in-Err.ensures.looks.bad part (ap Err bad))) in
-      (omega (arith, at_is, lt), subst (λ k. IfSome (g.S.Shelf.held c.args.shelf.now) (λ files. HasNoImage c.args.table.now files (get_or names k []))) at_is none);
+      let own : IsBadHead c.args.table.now (g.S.Shelf.held c.args.shelf.now) (get_or names c.names.at []) part =
+      subst (λ name. IsBadHead c.args.table.now (g.S.Shelf.held c.args.shelf.now) name part) named
+      (subst (λ held. IsBadHead c.args.table.now held text part) c.names.invariant.reads.held (c.in-Err.ensures.looks.bad part (ap Err bad))) in
+      (omega (arith, at_is, lt), subst (λ k. IsBadHead c.args.table.now (g.S.Shelf.held c.args.shelf.now) (get_or names k []) part) at_is own);
   only_reads =
       let a : Seen = seen g.S.Shelf c.args.shelf.now in
       let b : Seen = seen g.S.Shelf c.names.shelf in

@@ -1,4 +1,4 @@
-use Rattle.std.proofs.Common.{◌≡◌, ◌∙◌, ◌+◌, ◌*◌, ◌-◌, ◌<◌, [], ℕ, true, false, List, IfSome, Err, length, get_or, sym, ap, subst, arith}
+use Rattle.std.proofs.Common.{◌≡◌, ◌∙◌, ◌+◌, ◌*◌, ◌-◌, ◌<◌, [], ℕ, true, false, List, Err, length, get_or, refl, sym, ap, subst, arith}
 use Rattle.outside.specs.Seen.{Seen, seen}
 use Rattle.agg_laws.specs.Numbers.{most_values}
 use Rattle.segment_file.specs.Names.{file_of}
@@ -10,13 +10,13 @@ use Rattle.scan_engine.specs.Scanned.{HaveAtMost}
 use Rattle.scan_engine.proofs.AddLemmas.{at_most_more}
 use Rattle.sql_reply.proofs.GroupLemmas.{none_fit}
 use Rattle.segment_reads.specs.Logs.{IsFileOf}
-use Rattle.segment_head.specs.Stored.{HasNoImage}
 use borrow.Author.Count.{below_more, below_none}
 use Rattle.segment_opening.specs.Calls.{HasOpeningIn}
 use Rattle.query_executor.specs.Lines.{stats_line}
+use Rattle.query_executor.specs.Passes.{IsBadPart}
 use Rattle.query_executor.specs.Steps.{AddsLine, AddsStored, HasGroups, HasLines, IsStoredOverfull, fault_at}
 use Rattle.query_executor.proofs.LineLemmas.{lines_more, no_lines}
-use Rattle.query_executor.specs.declared.fault.ExecutorFault.TheVariants.{NotASegment, ReadFault, Sql}
+use Rattle.query_executor.specs.declared.fault.ExecutorFault.TheVariants.{NotASegment, ReadFault}
 use Rattle.query_executor.proofs.FaultLemmas.{bad_so, read_so, refused_so}
 use Rattle.query_executor.proofs.GroupLemmas.{no_groups, one_more, too_many}
 use Rattle.segment_reads.proofs.NameLemmas.{among, is_named}
@@ -26,19 +26,18 @@ use Rattle.segment_reads.proofs.GrownLemmas.{IsFileBefore, each_as, each_more, e
 use Rattle.segment_reads.proofs.SpanLemmas.{planned_less, planned_of_file}
 use Rattle.query_executor.proofs.Unread.{nothing_read}
 use Rattle.segment_file.specs.Names.{IsSegmentName}
-use Rattle.sql_reply.specs.declared.fault.SqlFault.TheVariants.{NoMemory}
-use Rattle.query_executor.proofs.EndLemmas.{gives_fault, memory_refused, no_fault}
-use Rattle.query_executor.proofs.PassLemmas.{pass_unread}
+use Rattle.sql_reply.specs.declared.fault.SqlFault.TheVariants.{TooManyGroups}
+use Rattle.query_executor.proofs.EndLemmas.{no_fault}
 use Rattle.query_executor.proofs.pass.pass_over.Goals as goal
 
 pub names-init : goal.names-init
 names-init g c = record {
-  of_query = c.in_ok-pass.ensures.groups.of_query;
-  most = c.in_ok-pass.ensures.groups.most_is;
-  fits = subst (λ (groups : Groups). HaveAtMost 0 groups) (sym c.in_ok-pass.ensures.groups.groups_are) (none_fit (shape_of c.args.query.now));
-  so_far = no_groups c.args.query.now c.args.table.now c.args.names.now (g.S.Shelf.held c.args.shelf.now) c.in_ok-pass.pass.groups c.in_ok-pass.ensures.groups;
-  wants = c.in_ok-pass.ensures.wants;
-  lines = λ wanted. subst (HasLines (stats_line c.args.query.now c.args.table.now) c.args.table.now (g.S.Shelf.held c.args.shelf.now) c.args.names.now 0) (sym c.in_ok-pass.ensures.lines) (no_lines (stats_line c.args.query.now c.args.table.now) c.args.table.now c.args.names.now (g.S.Shelf.held c.args.shelf.now));
+  of_query = c.requires.begins.of_query;
+  most = c.requires.begins.most_is;
+  fits = subst (λ (groups : Groups). HaveAtMost 0 groups) (sym c.requires.begins.groups_are) (none_fit (shape_of c.args.query.now));
+  so_far = no_groups c.args.query.now c.args.table.now c.args.names.now (g.S.Shelf.held c.args.shelf.now) c.args.pass.now.groups c.requires.begins;
+  wants = refl;
+  lines = λ wanted. subst (HasLines (stats_line c.args.query.now c.args.table.now) c.args.table.now (g.S.Shelf.held c.args.shelf.now) c.args.names.now 0) (sym c.requires.no_lines) (no_lines (stats_line c.args.query.now c.args.table.now) c.args.table.now c.args.names.now (g.S.Shelf.held c.args.shelf.now));
   opens = below_none (λ k. HasOpeningIn c.args.table.now (g.S.Shelf.held c.args.shelf.now) (get_or c.args.names.now k []));
   reads = reads_none (seen g.S.Shelf c.args.shelf.now);
   log = logs_none (IsFileOf c.args.names.now) (g.S.Shelf.log c.args.shelf.now);
@@ -54,13 +53,13 @@ pass_one-requires g c =
     let is : text ≡ get_or names c.names.at [] = is_named names c.names.at text c.index-names-at.result lt c.as_str.ensures c.index-names-at.is in
     record {
       of_table = record {
-        valid = c.requires.of_table.valid;
-        name = subst IsSegmentName (sym is) (c.requires.of_table.named c.names.at [] lt);
-        query = c.requires.query;
+        valid = c.requires.over.of_table.valid;
+        name = subst IsSegmentName (sym is) (c.requires.over.of_table.named c.names.at [] lt);
+        query = c.requires.over.query;
       };
       room = record {
         of_query = c.names.invariant.of_query;
-        fits = at_most_more (groups_in c.names.pass.groups) (c.names.at * 1048576) (most_values - 1048576) (omega (arith, lt, c.requires.of_table.at_most)) c.names.invariant.fits;
+        fits = at_most_more (groups_in c.names.pass.groups) (c.names.at * 1048576) (most_values - 1048576) (omega (arith, lt, c.requires.over.of_table.at_most)) c.names.invariant.fits;
       };
     }
 
@@ -124,10 +123,10 @@ returns-in-Err-clause-passes g c = record {
       let lt : c.names.at < length names = omega arith in
       let named : text ≡ get_or names c.names.at [] = is_named names c.names.at text c.index-names-at.result lt c.as_str.ensures c.index-names-at.is in
       let (at_is, bad) = bad_so _ at c.in-Err.fault part (sym c.fault_at.ensures ∙ cc) in
-      let none : IfSome (g.S.Shelf.held c.args.shelf.now) (λ files. HasNoImage c.args.table.now files (get_or names c.names.at [])) =
-      subst (λ name. IfSome (g.S.Shelf.held c.args.shelf.now) (λ files. HasNoImage c.args.table.now files name)) named
-      (subst (λ held. IfSome held (λ files. HasNoImage c.args.table.now files text)) c.names.invariant.reads.held (c.in-Err.ensures.adds.bad part (ap Err bad))) in
-      (omega (arith, at_is, lt), subst (λ k. IfSome (g.S.Shelf.held c.args.shelf.now) (λ files. HasNoImage c.args.table.now files (get_or names k []))) at_is none);
+      let own : IsBadPart c.args.query.now c.args.table.now (g.S.Shelf.held c.args.shelf.now) (get_or names c.names.at []) part =
+      subst (λ name. IsBadPart c.args.query.now c.args.table.now (g.S.Shelf.held c.args.shelf.now) name part) named
+      (subst (λ held. IsBadPart c.args.query.now c.args.table.now held text part) c.names.invariant.reads.held (c.in-Err.ensures.adds.bad part (ap Err bad))) in
+      (omega (arith, at_is, lt), subst (λ k. IsBadPart c.args.query.now c.args.table.now (g.S.Shelf.held c.args.shelf.now) (get_or names k []) part) at_is own);
   only_reads =
       let a : Seen = seen g.S.Shelf c.args.shelf.now in
       let b : Seen = seen g.S.Shelf c.names.shelf in
@@ -160,15 +159,13 @@ returns-in-Err-clause-passes g c = record {
       let files = entries_then (λ entry. IsFileBefore names (c.names.at + 1) entry.file) a.log b.log d.log
       (entries_as (λ entry. IsFileBefore names c.names.at entry.file) (λ entry. IsFileBefore names (c.names.at + 1) entry.file) a.log b.log (λ entry h. more_before names c.names.at entry.file h) c.names.invariant.files)
       (entries_as (λ entry. entry.file ≡ file_of text) (λ entry. IsFileBefore names (c.names.at + 1) entry.file) b.log d.log (λ entry e. this_before names c.names.at text entry.file is e) c.in-Err.ensures.adds.log) in
-      each_rest (ReadsPlanned query table false) table a.held names (planned_of_file query table false) (c.names.at + 1) a.log d.log (omega (arith, lt)) (nothing_read c.docs_bound_law.ensures.bound query table c.requires.of_table.valid a.held) files here;
+      each_rest (ReadsPlanned query table false) table a.held names (planned_of_file query table false) (c.names.at + 1) a.log d.log (omega (arith, lt)) (nothing_read c.docs_bound_law.ensures.bound query table c.requires.over.of_table.valid a.held) files here;
 }
 
-pub returns-in_err-pass-clause-passes : goal.returns-in_err-pass-clause-passes
-returns-in_err-pass-clause-passes g c =
-    pass_unread c.args.query.now c.args.table.now c.args.names.now c.docs_bound_law.ensures.bound c.requires.of_table.valid _ c.from_residual.result (seen g.S.Shelf c.args.shelf.now) (gives_fault _ c.from_residual.result (Sql NoMemory) c.from_residual.ensures.1)
-
-pub returns-in_err-pass-clause-refused : goal.returns-in_err-pass-clause-refused
-returns-in_err-pass-clause-refused g c = λ fault e real. absurd (memory_refused _ c.from_residual.result fault (gives_fault _ c.from_residual.result (Sql NoMemory) c.from_residual.ensures.1) e real)
+pub returns-in-Err-clause-filled : goal.returns-in-Err-clause-filled
+returns-in-Err-clause-filled g c = λ most is.
+    let (full, fault_is) = refused_so _ c.in-Err.fault (TooManyGroups most) (sym c.fault_at.ensures ∙ cc) (λ e. absurd cc) in
+    c.in-Err.ensures.adds.filled (ap Err full) ∙ c.names.invariant.most ∙ sym c.requires.begins.most_is
 
 pub returns-clause-made : goal.returns-clause-made
 returns-clause-made g c = record {
@@ -186,7 +183,7 @@ returns-clause-made g c = record {
 
 pub returns-clause-passes : goal.returns-clause-passes
 returns-clause-passes g c = record {
-  bad = λ at part e. absurd (no_fault _ c.names.pass (NotASegment at part) e);
+  bad = λ at part e. absurd (no_fault _ tt (NotASegment at part) e);
   only_reads = reads_as (seen g.S.Shelf c.args.shelf.now) (seen g.S.Shelf c.names.shelf) c.names.invariant.reads (λ e. absurd cc) (λ e. absurd e);
   log = c.names.invariant.log;
   reads =

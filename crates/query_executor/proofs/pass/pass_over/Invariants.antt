@@ -17,8 +17,8 @@ invariant-names g l = record {
   most : l.pass.groups.most ≡ most_groups;
   fits : HaveAtMost (l.at * 1048576) (groups_in l.pass.groups);
   so_far : HasGroups l.query l.table (g.S.Shelf.held l.fn.shelf) l.names l.at l.pass.groups;
-  wants : l.pass.wants_lines ≡ l.fn.wants_lines;
-  lines : l.fn.wants_lines ≡ true → HasLines (stats_line l.query l.table) l.table (g.S.Shelf.held l.fn.shelf) l.names l.at l.pass.lines.items;
+  wants : l.pass.wants_lines ≡ l.fn.pass.wants_lines;
+  lines : l.fn.pass.wants_lines ≡ true → HasLines (stats_line l.query l.table) l.table (g.S.Shelf.held l.fn.shelf) l.names l.at l.pass.lines.items;
   opens : (k : ℕ) → k < l.at → HasOpeningIn l.table (g.S.Shelf.held l.fn.shelf) (get_or l.names k []);
   reads : OnlyReads ⊥ (seen g.S.Shelf l.fn.shelf) (seen g.S.Shelf l.shelf);
   log : LogsOf l.names (g.S.Shelf.log l.fn.shelf) (g.S.Shelf.log l.shelf);

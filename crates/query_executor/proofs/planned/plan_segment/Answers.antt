@@ -4,7 +4,7 @@ use Rattle.eligibility.specs.Rule.{picked}
 use Rattle.segment_head.specs.declared.fault.EngineFault.TheVariants as engine
 use Rattle.segment_reads.specs.Logs.{IsHeadRead}
 use Rattle.segment_head.specs.Stored.{HasNoImage}
-use Rattle.segment_opening.specs.Calls.{HasOpeningIn}
+use Rattle.segment_opening.specs.Calls.{FailsColumn, HasOpeningIn}
 use Rattle.segment_opening.specs.Opened.{IsHeadIn}
 use Rattle.query_executor.proofs.EndLemmas.{fault_if, fault_not, fault_ok, gives_fault, memory_not_bad, memory_not_full, memory_not_read, no_fault, own_fault, reads_done, reads_failed, reads_lacking, reads_still}
 use Rattle.segment_opening.proofs.HeadLemmas.{image_grown}
@@ -72,8 +72,11 @@ returns-in-Err-load_detailed g c =
       opens = tt;
       looks = record {
         bad = λ part is.
-            subst (λ held. IfSome held (λ files. HasNoImage table files name)) same
-            (c.in-Err-load_detailed.ensures.loads.bad part (ap Err (own_fault _ fault (engine.NotASegment part) is)) name (subst (λ held. IsHeadIn table held name head) (sym same) c.in-Ok.ensures.opened.image));
+            let own = ap Err (own_fault _ fault (engine.NotASegment part) is) in (
+              inr (head, c.in-Ok.ensures.opened, subst (λ held. FailsColumn table held head part) same (c.in-Err-load_detailed.ensures.loads.named part own)),
+              subst (λ held. IfSome held (λ files. HasNoImage table files name)) same
+                  (c.in-Err-load_detailed.ensures.loads.bad part own name (subst (λ held. IsHeadIn table held name head) (sym same) c.in-Ok.ensures.opened.image)),
+            );
         never_full = λ is. c.in-Err-load_detailed.ensures.loads.never_full (ap Err (own_fault _ fault engine.TooManyGroups is));
         only_reads = reads_then a b d (reads_still _ head engine.ReadFault a b c.in-Ok.ensures.looks.only_reads) (reads_failed _ _ fault engine.ReadFault b d c.in-Err-load_detailed.ensures.loads.only_reads);
         log = entries_then (IsHeadRead table a.held name) a.log b.log d.log c.in-Ok.ensures.looks.log

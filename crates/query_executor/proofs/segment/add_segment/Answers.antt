@@ -1,24 +1,25 @@
-use Rattle.std.proofs.Common.{◌≡◌, ◌∙◌, true, false, ℕ, List, Result, Ok, Err, IfOk, IfSome, inl, is_some, refl, sym, ap, subst}
+use Rattle.std.proofs.Common.{◌≡◌, ◌∙◌, true, false, ℕ, List, Result, Ok, Err, IfOk, IfSome, inl, inr, is_some, refl, sym, ap, subst}
 use Rattle.outside.specs.Seen.{Seen, seen}
 use Rattle.eligibility.specs.Rule.{picked}
 use Rattle.std.specs.Prelude.{OnOk}
-use Rattle.segment_head.specs.Heads.{AreIn}
 use Rattle.segment_file.specs.Names.{file_of}
 use Rattle.segment_head.specs.declared.fault.EngineFault.TheVariants as engine
 use Rattle.segment_head.specs.Stored.{HasNoImage}
 use Rattle.query_executor.specs.Steps.{AddsStored, IsStoredOverfull}
 use Rattle.segment_reads.specs.Looked.{IsDoneIn}
-use Rattle.segment_opening.specs.Opened.{IsHeadIn, IsSpreadIn}
+use Rattle.segment_opening.specs.Calls.{FailsColumn, IsOpened}
+use Rattle.segment_opening.specs.Opened.{Grows, IsHeadIn}
+use Rattle.query_executor.specs.Passes.{IsBadPart}
 use Rattle.segment_plan.specs.declared.plans.SegmentPlan.TheVariants.{Pruned}
 use Rattle.query_executor.proofs.DoneLemmas.{done_so, none_looked}
 use Rattle.query_executor.proofs.PlanLemmas.{pruned_planned}
 use Rattle.query_executor.proofs.EndLemmas.{no_fault, own_fault, reads_done, reads_failed, reads_still, found_so}
-use Rattle.segment_opening.proofs.HeadLemmas.{image_later}
+use Rattle.segment_opening.proofs.HeadLemmas.{opened_later}
 use Rattle.segment_reads.proofs.LogLemmas.{head_in, loaded_in, logs_then, reads_then}
 use Rattle.query_executor.proofs.SegmentLemmas.{adds_none}
 use Rattle.segment_scan.proofs.SegmentLemmas.{ok_so}
 use Rattle.segment_reads.specs.Reads.{LogsOne, ReadsPlanned}
-use Rattle.query_executor.proofs.OneReads.{err_so, given_up, headed_one, heads_then, loaded_one, opened_one, quiet_one, spread_later}
+use Rattle.query_executor.proofs.OneReads.{err_so, given_up, headed_one, heads_then, loaded_one, opened_one, quiet_one}
 use Rattle.query_executor.proofs.segment.add_segment.Goals as goal
 
 -- what holds, holds of a call that ended well
@@ -53,7 +54,8 @@ returns-in-Err g c =
       adds = record {
         added = tt;
         full = λ is. absurd (c.in-Err.ensures.looks.never_full (ap Err (own_fault _ c.in-Err.fault engine.TooManyGroups is)));
-        bad = λ part is. c.in-Err.ensures.looks.bad part (ap Err (own_fault _ c.in-Err.fault (engine.NotASegment part) is));
+        filled = λ is. absurd (c.in-Err.ensures.looks.never_full (ap Err (own_fault _ c.in-Err.fault engine.TooManyGroups is)));
+        bad = λ part is. let bad = c.in-Err.ensures.looks.bad part (ap Err (own_fault _ c.in-Err.fault (engine.NotASegment part) is)) in (inl bad.0, bad.1);
         only_reads = reads_failed _ _ c.in-Err.fault engine.ReadFault a b c.in-Err.ensures.looks.only_reads;
         log = head_in table name a.held a.log b.log c.in-Err.ensures.looks.log;
         reads = tt;
@@ -78,6 +80,7 @@ returns-then-prune g c =
       adds = record {
         added = adds_none query table name head c.head_tells_law.ensures c.requires.of_table.valid a.held c.args.groups.now c.requires.room.of_query (λ rows tells. c.pruned_law.ensures query table rows head tells is) c.in-Ok.ensures.opened.image;
         full = λ fault. absurd (no_fault _ _ engine.TooManyGroups fault);
+        filled = λ fault. absurd (no_fault _ _ engine.TooManyGroups fault);
         bad = λ part fault. absurd (no_fault _ _ (engine.NotASegment part) fault);
         only_reads = reads_done _ _ head _ engine.ReadFault a b c.in-Ok.ensures.looks.only_reads;
         log = head_in table name a.held a.log b.log c.in-Ok.ensures.looks.log;
@@ -105,9 +108,13 @@ returns-in-Err-load_wanted g c =
       adds = record {
         added = tt;
         full = λ is. absurd (c.in-Err-load_wanted.ensures.loads.never_full (ap Err (own_fault _ fault engine.TooManyGroups is)));
+        filled = λ is. absurd (c.in-Err-load_wanted.ensures.loads.never_full (ap Err (own_fault _ fault engine.TooManyGroups is)));
         bad = λ part is.
-            subst (λ held. IfSome held (λ files. HasNoImage table files name)) same
-            (c.in-Err-load_wanted.ensures.loads.bad part (ap Err (own_fault _ fault (engine.NotASegment part) is)) name (subst (λ held. IsHeadIn table held name head) (sym same) c.in-Ok.ensures.opened.image));
+            let own = ap Err (own_fault _ fault (engine.NotASegment part) is) in (
+              inl (inr (head, c.in-Ok.ensures.opened, subst (λ held. FailsColumn table held head part) same (c.in-Err-load_wanted.ensures.loads.named part own))),
+              subst (λ held. IfSome held (λ files. HasNoImage table files name)) same
+                  (c.in-Err-load_wanted.ensures.loads.bad part own name (subst (λ held. IsHeadIn table held name head) (sym same) c.in-Ok.ensures.opened.image)),
+            );
         only_reads = reads_then a b d (reads_still _ head engine.ReadFault a b c.in-Ok.ensures.looks.only_reads) (reads_failed _ _ fault engine.ReadFault b d c.in-Err-load_wanted.ensures.loads.only_reads);
         log = logs_then (λ other. other ≡ file_of name) a.log b.log d.log opened loaded;
         reads = tt;
@@ -131,20 +138,20 @@ returns g c =
     let head = c.in-Ok.head in
     let full = c.load_wanted.new.head in
     let same = c.in-Ok-load_wanted.ensures.loads.only_reads.held ∙ c.in-Ok.ensures.looks.only_reads.held in
-    let later = image_later table name a.held b.held d.held head full c.in-Ok.ensures.looks.only_reads.held c.in-Ok-load_wanted.ensures.loads.only_reads.held c.in-Ok-load_wanted.ensures.loads.grows c.in-Ok.ensures.opened.image in
-    let spread : IsSpreadIn table d.held name full = subst (λ h. IsSpreadIn table h name full) (sym same) (spread_later table a.held name head full c.in-Ok-load_wanted.ensures.loads.grows.sections_same c.in-Ok.ensures.opened.spread) in
+    let grown : Grows table a.held head full = subst (λ h. Grows table h head full) c.in-Ok.ensures.looks.only_reads.held c.in-Ok-load_wanted.ensures.loads.grows in
+    let later : IsOpened table d.held name full = subst (λ h. IsOpened table h name full) (sym same) (opened_later table a.held name head full grown c.in-Ok.ensures.opened) in
     let opened = head_in table name a.held a.log b.log c.in-Ok.ensures.looks.log in
     let loaded = loaded_in table name head b.log d.log c.in-Ok.ensures.opened.of c.in-Ok.ensures.opened.placed c.in-Ok-load_wanted.ensures.loads.log in
     let first = logs_then (λ other. other ≡ file_of name) a.log b.log d.log opened loaded in
     let heads = heads_then query table name a.held a.log b.log d.log opened loaded
     (opened_one query table name c.requires.of_table.valid c.requires.of_table.name a.held a.log b.log c.in-Ok.ensures.looks.log) (loaded_one query table name a.held head b.log d.log c.in-Ok.ensures.opened.placed c.in-Ok.ensures.opened.spread c.in-Ok-load_wanted.ensures.loads.log) in
-    let placed : AreIn (file_of name) full.sections = subst (AreIn (file_of name)) (sym c.in-Ok-load_wanted.ensures.loads.grows.sections_same) c.in-Ok.ensures.opened.placed in
-    let adds = c.add_planned.ensures.adds name later spread placed in
+    let adds = c.add_planned.ensures.adds name later in
     record {
       adds = record {
         added = subst (λ h. OnOk c.add_planned.result (AddsStored query table h name c.args.groups.now c.add_planned.new.groups)) same adds.added;
         full = λ is. subst (λ h. IsStoredOverfull query table h name c.args.groups.now) same (adds.full is);
-        bad = λ part is. subst (λ h. IfSome h (λ files. HasNoImage table files name)) same (adds.bad part is);
+        filled = adds.filled;
+        bad = λ part is. subst (λ h. IsBadPart query table h name part) same (adds.bad part is);
         only_reads = reads_then a d e
             (reads_then a b d (reads_still _ head engine.ReadFault a b c.in-Ok.ensures.looks.only_reads) (reads_still _ tt engine.ReadFault b d c.in-Ok-load_wanted.ensures.loads.only_reads))
             adds.only_reads;
@@ -157,5 +164,5 @@ returns g c =
       opens = on_ok c.add_planned.result c.in-Ok.ensures.opened.opening;
       done = subst (λ h. IfOk c.add_planned.result (λ done. IsDoneIn query table h name done.plan done.docs)) same
           (found_so c.add_planned.result (λ done. (name : List ℕ) → IsHeadIn table d.held name full → IsDoneIn query table d.held name done.plan done.docs) (λ done. IsDoneIn query table d.held name done.plan done.docs)
-          (λ done is. is name later) c.add_planned.ensures.done);
+          (λ done is. is name later.image) c.add_planned.ensures.done);
     }
