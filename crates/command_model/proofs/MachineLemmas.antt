@@ -414,15 +414,15 @@ module _ (stored : Files) (texts : state.Texts) (segments : Segments) (stands : 
       ap Refuses r.line_is
       ∙ sym (reply_right stored texts segments stands r.table accepted about r.names sql (Err r.wrong) r.names_are (fault_reply stored texts segments stands r.table accepted about r.names sql r.wrong r.wrong_is))
 
-  image_right : {A : Type 0} (name part : List ℕ) → IsWrongImage stored name part → A
-  image_right name part w =
+  image_right : {A : Type 0} (about : About) (sql name part : List ℕ) → IsWrongImage about sql stored name part → A
+  image_right about sql name part w =
       let (rows, has, is) = came stored texts segments stands w.table (table_stands stored texts segments w.table stands w.table_is) name w.there in
       absurd (w.no_image rows has)
 
   some_asked : (about : About) (sql : List ℕ) (line : Note) → QueryRefuses about sql stored line → Refuses line ≡ query_answer about (HasTable texts segments) sql
   some_asked about sql note.NoTable h = one_there stored texts segments stands h
   some_asked about sql (note.NotASegment name part) (inl w) = table_right stored texts segments stands w.wrong
-  some_asked about sql (note.NotASegment name part) (inr w) = image_right name part w
+  some_asked about sql (note.NotASegment name part) (inr w) = image_right about sql name part w
   some_asked about sql line h = no_reply about sql line h
 
 query_step : (stored : Files) (about : About) (sql : List ℕ) (answer : Answer) (before : State) → Stands stored before → Queries about sql stored answer → answer ≡ query_answer about before sql

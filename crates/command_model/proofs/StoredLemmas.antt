@@ -13,6 +13,7 @@ use Rattle.outside.specs.Files.{Files, Lacks, OfFile, bytes_of, name_order}
 use Rattle.outside.specs.Reads.{Consecutive, Entry}
 use Rattle.outside.specs.Seen.{OnlyReads, Seen}
 use Rattle.outside.specs.Whole.{LogsFront}
+use Rattle.segment_head.specs.Calls.{FailsOpening}
 use Rattle.segment_head.specs.Heads as heads
 use Rattle.segment_file.specs.Names.{IsSegmentName, file_of}
 use Rattle.segment_file.specs.Rules.{HasFront, KeepsRules}
@@ -202,27 +203,28 @@ module _ (old new : Seen) (table : Table) (name file : List ℕ) (is_file : file
     stops = tt;
   }
 
-  breaks : (p : Part) (held : Option Files) → IfSome held (λ files. ¬ KeepsRules table name (bytes_of (Some files) file)) → IfSome held (λ files. HasTableFile files table × (has_segment files name ≡ true))
+  breaks : (p : Part) (held : Option Files) → IfSome held (λ files. ¬ KeepsRules table name (bytes_of (Some files) file)) → IfSome held (λ files. FailsOpening table name (bytes_of (Some files) file) p) → IfSome held (λ files. HasTableFile files table × (has_segment files name ≡ true))
       → IfSome held (λ files. SegmentsRefuse files (note.NotASegment name (part_text table.schema.fields p)))
-  breaks p None b t = tt
-  breaks p (Some files) b t = inr (record { table = table; table_is = t.0; there = t.1; breaks = λ keeps. b (subst (λ f. KeepsRules table name (bytes_of (Some files) f)) (sym is_file) keeps); wrong = p; part_is = refl })
+  breaks p None b fails t = tt
+  breaks p (Some files) b fails t = inr (record { table = table; table_is = t.0; there = t.1; breaks = λ keeps. b (subst (λ f. KeepsRules table name (bytes_of (Some files) f)) (sym is_file) keeps); wrong = p; first = subst (λ f. FailsOpening table name (bytes_of (Some files) f) p) is_file fails; part_is = refl })
 
   pub uncounted : (f : HeadFault) (s : Stop) → IsHeadStop name table.schema.fields f s → IfSome old.held (λ files. HasTableFile files table × (has_segment files name ≡ true))
-      → ((p : Part) → f ≡ head.NotASegment p → IfSome old.held (λ files. ¬ KeepsRules table name (bytes_of (Some files) file))) → OnlyReads (IsErrOf (Unopened f) head.ReadFault) old new
+      → ((p : Part) → f ≡ head.NotASegment p → IfSome old.held (λ files. ¬ KeepsRules table name (bytes_of (Some files) file)))
+      → ((p : Part) → f ≡ head.NotASegment p → IfSome old.held (λ files. FailsOpening table name (bytes_of (Some files) file) p)) → OnlyReads (IsErrOf (Unopened f) head.ReadFault) old new
       → heads.LogsOpened table name file old.held old.log new.log → LooksFor Rows SegmentsRefuse StoreFiles old new (Err s)
-  uncounted (head.NotASegment p) s (inl is) there refused reads log =
+  uncounted (head.NotASegment p) s (inl is) there refused first reads log =
       let line = note.NotASegment name (part_text table.schema.fields p) in
       subst (λ w. LooksFor Rows SegmentsRefuse StoreFiles old new (Err w)) (sym is) (record {
         reads = reads_as old new reads (λ e. absurd cc) (λ e. absurd cc);
         log = head_opened table name file old.held old.log new.log is_file named log;
         found = tt;
-        stops = (refl, breaks p old.held (refused p refl) there);
+        stops = (refl, breaks p old.held (refused p refl) (first p refl) there);
       })
-  uncounted (head.NotASegment p) s (inr is) there refused reads log =
+  uncounted (head.NotASegment p) s (inr is) there refused first reads log =
       subst (λ w. LooksFor Rows SegmentsRefuse StoreFiles old new (Err w)) (sym is) (record { reads = reads_as old new reads (λ e. absurd cc) (λ e. absurd cc); log = head_opened table name file old.held old.log new.log is_file named log; found = tt; stops = tt })
-  uncounted head.ReadFault s is there refused reads log =
+  uncounted head.ReadFault s is there refused first reads log =
       subst (λ w. LooksFor Rows SegmentsRefuse StoreFiles old new (Err w)) (sym is) (record { reads = reads_as old new reads (λ e. refl) (λ e. refl); log = head_opened table name file old.held old.log new.log is_file named log; found = tt; stops = tt })
-  uncounted head.NoMemory s is there refused reads log =
+  uncounted head.NoMemory s is there refused first reads log =
       subst (λ w. LooksFor Rows SegmentsRefuse StoreFiles old new (Err w)) (sym is) (record { reads = reads_as old new reads (λ e. absurd cc) (λ e. absurd cc); log = head_opened table name file old.held old.log new.log is_file named log; found = tt; stops = tt })
 
 -- ---- all segments

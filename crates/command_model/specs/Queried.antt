@@ -12,6 +12,7 @@ use Rattle.sql_reply.specs.declared.fault.SqlFault.{SqlFault}
 use Rattle.sql_reply.specs.declared.fault.SqlFault.TheVariants as fault
 use Rattle.query_executor.specs.Answers.{IsReply}
 use Rattle.query_executor.specs.Explained.{IsExplained, explained}
+use Rattle.query_executor.specs.Passes.{IsBadAsked, IsBadPlanned}
 use Rattle.segment_head.specs.Stored.{HasNoImage}
 use Rattle.query_executor.specs.Stated.{IsStated, stated}
 use Rattle.table_store.specs.Segments.{AreFirstNames, has_segment}
@@ -82,18 +83,26 @@ pub record HasNoReply (about : About) (files : Files) (sql : List ℕ) (line : N
   pub wrong_is : IsFaultOf about table files names sql wrong
   pub line_is : line ≡ sql_note wrong
 
--- the file of a segment of the table is the image of no rows
-pub record IsWrongImage (files : Files) (name part : List ℕ) : Type 0 where
+-- the part of the file of a segment that is refused, by what the query's text is asked for
+abbrev pub IsBadFor : About → Table → List ℕ → Option Files → List ℕ → Part → Type 0
+IsBadFor Rows table sql held name part = IsBadAsked table sql held name part
+IsBadFor Plans table sql held name part = IsBadPlanned table held name part
+IsBadFor RowsAndPlans table sql held name part = IsBadAsked table sql held name part
+
+-- the file of a segment of the table is the image of no rows, and is refused for this part of it
+pub record IsWrongImage (about : About) (sql : List ℕ) (files : Files) (name part : List ℕ)
+    : Type 0 where
   pub table : Table
   pub table_is : HasTableFile files table
   pub there : has_segment files name ≡ true
   pub no_image : HasNoImage table files name
   pub wrong : Part
+  pub bad : IsBadFor about table sql (Some files) name wrong
   pub part_is : part ≡ part_text table.schema.fields wrong
 
 -- why a query over a store is refused
 abbrev pub QueryRefuses : About → List ℕ → Files → Note → Type 0
 QueryRefuses about sql files note.NoTable = Lacks (Some files) table_name
 QueryRefuses about sql files (note.NotASegment name part) = IsWrongTable files name part
-    ⊎ IsWrongImage files name part
+    ⊎ IsWrongImage about sql files name part
 QueryRefuses about sql files line = HasNoReply about files sql line

@@ -117,7 +117,7 @@ abbrev pub IsWrong : Option Command → Files → List ℕ → List ℕ → Type
 IsWrong (Some Listing) files name part = IsWrongTable files name part
     ⊎ IsWrongSegment files name part
 IsWrong (Some (Ask about sql)) files name part = IsWrongTable files name part
-    ⊎ IsWrongImage files name part
+    ⊎ IsWrongImage about sql files name part
 IsWrong command files name part = IsWrongTable files name part
 
 -- a name is the one of the segment that a command makes or drops

@@ -12,6 +12,7 @@ use Rattle.segment_file.specs.Rules.{KeepsRules, HasFront}
 use Rattle.segment_file.specs.Names.{file_of}
 use Rattle.segment_file.specs.declared.part.Part.{Part}
 use Rattle.segment_file.specs.declared.part.Part.TheVariants as parts
+use Rattle.segment_head.specs.Calls.{FailsOpening}
 use Rattle.table_store.specs.Accepted.{IsNoTableFile, IsTableFile}
 use Rattle.table_store.specs.Segments.{AreFirstNames, has_segment}
 use Rattle.table_store.specs.State.{Segment, Segments}
@@ -60,13 +61,15 @@ TableRefuses files other = ⊥
 
 -- ---- its segments
 
--- of the file of a segment of the table some rule of a head fails
+-- of the file of a segment of the table some rule of a head fails: the part is the first that is
+-- not there, of the front and the bounds
 pub record IsWrongSegment (files : Files) (name part : List ℕ) : Type 0 where
   pub table : Table
   pub table_is : HasTableFile files table
   pub there : has_segment files name ≡ true
   pub breaks : ¬ KeepsRules table name (bytes_of (Some files) (file_of name))
   pub wrong : Part
+  pub first : FailsOpening table name (bytes_of (Some files) (file_of name)) wrong
   pub part_is : part ≡ part_text table.schema.fields wrong
 
 -- why the segments of a store are refused

@@ -25,14 +25,14 @@ use Rattle.command_model.specs.Consulted.{HasRead, ReadsAbout, ReadsStored}
 use Rattle.command_model.specs.Gives.{AnswersQuery, IsQueryStop, IsSegmentStop, LooksFor, NamesOneOf, StopsQuery, StopsStore, sql_stop}
 use Rattle.command_words.specs.Notes.{sql_note}
 use Rattle.command_model.specs.Profile.{TableFile, StoreFiles, makes_groups, query_refuses, sql_refuses}
-use Rattle.command_model.specs.Queried.{HasNoReply, HasReply, IsFaultOf, IsQueried, QueryRefuses}
+use Rattle.command_model.specs.Queried.{HasNoReply, HasReply, IsBadFor, IsFaultOf, IsQueried, QueryRefuses}
 use Rattle.command_model.specs.Ran.{Acted, Caused, Finds, IsAllowed, Over, Queries, Ran}
 use Rattle.command_model.specs.Step.{Answer, Refuses, Replies}
 use Rattle.command_model.specs.Stored.{HasTableFile, TableRefuses, part_text}
 use Rattle.command_model.specs.Touched.{IsStoreFile, LogsOpened}
 use Rattle.command_model.specs.World.{Devices}
 use Rattle.command_words.specs.declared.about.About.{About}
-use Rattle.command_words.specs.declared.about.About.TheVariants.{Plans}
+use Rattle.command_words.specs.declared.about.About.TheVariants.{Plans, Rows, RowsAndPlans}
 use Rattle.command_words.specs.declared.fault.Fault.TheVariants as fault
 use Rattle.command_words.specs.declared.note.Counted.TheVariants as counted
 use Rattle.command_words.specs.declared.note.Note.{Note}
@@ -123,6 +123,17 @@ names_opened names old new named (entries, is, each) =
 abbrev Unanswered : ExecutorFault → Result (List ℕ) ExecutorFault
 Unanswered f = Err f
 
+-- a part that is refused is that of a file that is no image
+no_image_for : (about : About) (table : Table) (sql : List ℕ) (held : Option Files) (name : List ℕ) (part : Part) → IsBadFor about table sql held name part → IfSome held (λ files. HasNoImage table files name)
+no_image_for Rows table sql held name part (query, asks, bad) = bad.1
+no_image_for Plans table sql held name part bad = bad.1
+no_image_for RowsAndPlans table sql held name part (query, asks, bad) = bad.1
+
+-- what holds of what is told holds where it is told
+where_told : (held : Option Files) (P : Option Files → Type 0) → P held → IfSome held (λ files. P (Some files))
+where_told None P p = tt
+where_told (Some files) P p = p
+
 pub one_of : (names : List (List ℕ)) (f : ExecutorFault) → ((at : ℕ) (part : Part) → Unanswered f ≡ Unanswered (executor.NotASegment at part) → at < length names) → NamesOneOf names f
 one_of names (executor.Sql wrong) h = tt
 one_of names (executor.NotASegment at part) h = h at part refl
@@ -175,14 +186,15 @@ module _ (about : About) (table : Table) (names : List (List ℕ)) (sql : List �
 
   -- the file of a segment is no image
   no_image : {F : Type 0} (at : ℕ) (part : Part) (s : Stop) → IsSegmentStop (get_or names at []) table.schema.fields part s → OnlyReads F a b → ¬ F
-      → (at < length names) × IfSome a.held (λ files. HasNoImage table files (get_or names at [])) → AnswersQuery about sql a b (Err s)
+      → (at < length names) × IsBadFor about table sql a.held (get_or names at []) part → AnswersQuery about sql a b (Err s)
   no_image at part s (inl is) reads fine bad =
       let line = note.NotASegment (get_or names at []) (part_text table.schema.fields part) in
       subst (λ w. AnswersQuery about sql a b (Err w)) (sym is)
       (stopped (stop.Refused line) reads (λ e. absurd cc) (λ e. absurd (fine e)) (
         refl,
-        told_both a.held Found (λ files. HasNoImage table files (get_or names at [])) (λ files. QueryRefuses about sql files line)
-            (λ files t none. inr (record { table = table; table_is = t.0; there = first_have files names t.1 at [] bad.0; no_image = none; wrong = part; part_is = refl })) there bad.1,
+        told_both a.held Found (λ files. IsBadFor about table sql (Some files) (get_or names at []) part) (λ files. QueryRefuses about sql files line)
+            (λ files t is. inr (record { table = table; table_is = t.0; there = first_have files names t.1 at [] bad.0; no_image = no_image_for about table sql (Some files) (get_or names at []) part is; wrong = part; bad = is; part_is = refl })) there
+            (where_told a.held (λ held. IsBadFor about table sql held (get_or names at []) part) bad.1),
       ))
   no_image at part s (inr is) reads fine bad =
       subst (λ w. AnswersQuery about sql a b (Err w)) (sym is) (stopped (stop.Fault fault.Memory) reads (λ e. absurd cc) (λ e. absurd (fine e)) tt)
@@ -190,7 +202,7 @@ module _ (about : About) (table : Table) (names : List (List ℕ)) (sql : List �
   pub query_stopped : (f : ExecutorFault) (s : Stop) → IsQueryStop names table.schema.fields f s → OnlyReads (IsErrOf (Unanswered f) executor.ReadFault) a b
       → ((wrong : SqlFault) → Unanswered f ≡ Unanswered (executor.Sql wrong) → wrong ≢ query.NoMemory → IfSome a.held (λ files. HasReply about table files names sql (Err wrong)))
       → ((wrong : SqlFault) → Unanswered f ≡ Unanswered (executor.Sql wrong) → IsOfText wrong → asked table false sql ≡ Err wrong)
-      → ((at : ℕ) (part : Part) → Unanswered f ≡ Unanswered (executor.NotASegment at part) → (at < length names) × IfSome a.held (λ files. HasNoImage table files (get_or names at [])))
+      → ((at : ℕ) (part : Part) → Unanswered f ≡ Unanswered (executor.NotASegment at part) → (at < length names) × IsBadFor about table sql a.held (get_or names at []) part)
       → ((wrong : SqlFault) → Unanswered f ≡ Unanswered (executor.Sql wrong) → wrong ≢ query.NoMemory → IsOfText wrong ⊎ (makes_groups about ≡ true))
       → AnswersQuery about sql a b (Err s)
   query_stopped (executor.Sql wrong) s is reads reply by bad of = subst (λ w. AnswersQuery about sql a b (Err w)) (sym is) (faulty wrong reads (reply wrong refl) (by wrong refl) (of wrong refl))
