@@ -1,5 +1,5 @@
 -- What `query` did, by what its parts did.
-use Rattle.std.proofs.Common.{◌≡◌, ◌≢◌, ◌<◌, ◌||◌, ◌⊎◌, ℕ, true, false, List, [], get_or, length, All, Option, Some, Result, Ok, Err, IfSome, IsErrAnd, IsErrOf, refl, ap, subst, sym, inl, inr}
+use Rattle.std.proofs.Common.{◌≡◌, ◌≢◌, ◌<◌, ◌||◌, ◌⊎◌, ℕ, true, false, List, [], get_or, length, All, Option, Some, None, Result, Ok, Err, IfSome, IsErrAnd, IsErrOf, refl, ap, subst, sym, inl, inr}
 use Rattle.std.proofs.lemmas.List.Elements.{All-contains}
 use Rattle.outside.specs.Files.{Files}
 use Rattle.outside.specs.Reads.{Entry}
