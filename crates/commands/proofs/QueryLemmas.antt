@@ -1,5 +1,5 @@
 -- What `query` did, by what its parts did.
-use Rattle.std.proofs.Common.{◌≡◌, ◌≢◌, ◌<◌, ◌||◌, ◌⊎◌, ℕ, true, false, List, [], get_or, length, map, All, Option, Some, Result, Ok, Err, IfSome, IsErrAnd, IsErrOf, refl, ap, subst, sym, inl, inr, arith}
+use Rattle.std.proofs.Common.{◌≡◌, ◌≢◌, ◌<◌, ◌||◌, ◌⊎◌, ℕ, true, false, List, [], get_or, length, map, All, Option, Some, None, Result, Ok, Err, IfSome, IsErrAnd, IsErrOf, refl, ap, subst, sym, inl, inr, arith}
 use Rattle.std.proofs.lemmas.List.Elements.{All-contains}
 use Rattle.outside.specs.Files.{Files}
 use Rattle.outside.specs.Reads.{Entry}
@@ -129,9 +129,9 @@ Unanswered f = Err f
 
 -- a part that is refused is that of a file that is no image
 no_image_for : (about : About) (table : Table) (sql : List ℕ) (held : Option Files) (segment : Stored) (part : Part) → IsBadFor about table sql held segment part → IfSome held (λ files. HasNoImage table files segment)
-no_image_for Rows table sql held segment part bad = bad.2.1
+no_image_for Rows table sql held segment part (query, asks, bad) = bad.1
 no_image_for Plans table sql held segment part bad = bad.1
-no_image_for RowsAndPlans table sql held segment part bad = bad.2.1
+no_image_for RowsAndPlans table sql held segment part (query, asks, bad) = bad.1
 
 -- what holds of what is told holds where it is told
 where_told : (held : Option Files) (P : Option Files → Type 0) → P held → IfSome held (λ files. P (Some files))
