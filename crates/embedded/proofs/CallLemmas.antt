@@ -1,47 +1,43 @@
 -- What calls on a store did, by what their parts did.
-use Rattle.std.proofs.Common.{◌≡◌, ◌≢◌, ◌∙◌, ◌⊎◌, ◌∷◌, ◌<◌, ◌≤◌, inl, inr, ℕ, List, [], length, get_or, Option, None, Some, Result, Ok, Err, IfSome, IsErrOf, true, false, Bool, cond, All, nat_lt, nat_le, refl, sym, ap, subst, arith}
+use Rattle.std.proofs.Common.{◌≡◌, ◌≢◌, ◌∙◌, ◌⊎◌, ◌∷◌, ◌<◌, ◌≤◌, inl, inr, ℕ, List, [], length, get_or, Option, Result, Ok, Err, IfSome, IsErrOf, true, false, Bool, cond, All, nat_lt, nat_le, refl, sym, ap, subst, arith}
 use Rattle.std.proofs.lemmas.Bool.Decides.{nat_tests}
 use Rattle.std.proofs.lemmas.List.Elements.{All-cons, All-nil}
 use Rattle.std.specs.List.{list_all}
 use Rattle.std.specs.FinMap as map
-use Rattle.outside.specs.Files.{Files, with_file}
-use Rattle.outside.specs.Seen.{OnlyReads, OnlyWrites, Seen}
+use Rattle.outside.specs.Files.{Files, with_file, without_file}
+use Rattle.outside.specs.Seen.{OnlyReads, Seen}
 use Rattle.values.specs.declared.value.Value.{Value}
 use Rattle.csv_row.specs.Row.{csv_limits}
-use Rattle.csv_row.specs.declared.fault.CsvFault.{CsvFault}
-use Rattle.csv_row.specs.declared.fault.CsvFault.TheVariants as csv
 use Rattle.csv_ingest.specs.Rows.{records_of, rows_in}
 use Rattle.table_schema.specs.declared.field.Field.{Field}
 use Rattle.table_schema.specs.declared.table.Table.{Table}
 use Rattle.table_schema.specs.ValidTable.{AreRows, IsRow, is_row, most_rows}
 use Rattle.segment_build.specs.Growing.{trees_fit}
-use Rattle.segment_build.specs.Publishing.{incoming}
 use Rattle.segment_file.specs.Image.{CanHold, image}
 use Rattle.segment_file.specs.Names.{IsSegmentName, file_of}
 use Rattle.segment_file.specs.declared.part.Part.{Part}
 use Rattle.segment_file.proofs.ImageRows.{and_first, and_second}
 use Rattle.segment_head.specs.Stored.{HasNoImage}
 use Rattle.query_executor.specs.Answers.{IsReply}
-use Rattle.query_executor.specs.Passes.{TextReads}
 use Rattle.query_executor.specs.declared.fault.ExecutorFault.{ExecutorFault}
 use Rattle.query_executor.specs.declared.fault.ExecutorFault.TheVariants as executor
 use Rattle.sql_reply.specs.declared.fault.SqlFault.{SqlFault}
 use Rattle.sql_reply.specs.declared.fault.SqlFault.TheVariants as query
-use Rattle.table_store.specs.Calls.{OnlyPublishes, ReadsNoByte, TellsPlace}
-use Rattle.table_store.specs.Segments.{AreFirstNames, HasRoom, LacksSegment}
+use Rattle.table_store.specs.Calls.{OnlyPublishes, OnlyRemoves, ReadsNoByte, TellsPlace}
+use Rattle.table_store.specs.Segments.{AreFirstNames, HasRoom, HasSegment, LacksSegment}
 use Rattle.table_store.specs.State.{Segments}
 use Rattle.table_store.specs.Stands.{segment_of}
 use Rattle.table_store.specs.declared.fault.StoreFault.{StoreFault}
 use Rattle.table_store.specs.declared.fault.StoreFault.TheVariants as store
-use Rattle.table_store.proofs.CallLemmas.{looked, looked_then, publishes_so}
+use Rattle.table_store.proofs.CallLemmas.{looked, publishes_so}
 use Rattle.command_model.proofs.StoredLemmas.{reads_as, reads_then}
-use Rattle.embedded.specs.Calls.{Answers, AnswersOver, Builds, WhyNotBuilt}
-use Rattle.embedded.specs.Faults.{of_csv, of_query, of_sql}
+use Rattle.embedded.specs.Calls.{Answers, Builds, Drops, DropsFrom, WhyNotBuilt}
+use Rattle.embedded.specs.Faults.{of_query}
 use Rattle.embedded.specs.Rows.{Given, are_rows, csv_rows, given_by, own_rows}
-use Rattle.embedded.specs.Stores.{Keeps, over}
+use Rattle.embedded.specs.Stores.{over}
 use Rattle.embedded.specs.declared.fault.Fault.{Fault}
-use Rattle.embedded.specs.declared.fault.Fault.TheVariants.{BadCsv, BadName, BadQuery, BadRows, Store, TooLong}
-use Rattle.embedded.proofs.StateLemmas.{Kept, full_so, image_so, lacks_so, names_so, put_so, reply_so, room_so, taken_so}
+use Rattle.embedded.specs.declared.fault.Fault.TheVariants.{BadQuery, BadRows, Store}
+use Rattle.embedded.proofs.StateLemmas.{Kept, full_so, image_so, lacks_so, put_so, removed_so, reply_so, room_so, taken_so}
 
 -- ---- faults
 
@@ -70,26 +66,11 @@ own_leaves f a d p =
     publishes_so (IsErrOf (Failed f) store.ReadFault) (IsErrOf (Failed f) store.WriteFault) (IsErrOf (FailedSo (Store f)) (Store store.ReadFault)) (IsErrOf (FailedSo (Store f)) (Store store.WriteFault)) a d
     (from_own f store.ReadFault) (to_own f store.ReadFault) (from_own f store.WriteFault) (to_own f store.WriteFault) p
 
-pub no_look : (a : Seen) → ReadsNoByte ⊥ a a
-no_look a = record { reads = record { held = refl; parts = refl; writes = refl; later = omega arith; rose = λ e. absurd e; unchanged = λ e. refl }; log = refl }
-
--- a call that was refused by itself, after looks that ended well
-looked_only : (why : Fault) (a b : Seen) → why ≢ Store store.ReadFault → why ≢ Store store.WriteFault → ReadsNoByte ⊥ a b
-    → OnlyPublishes (IsErrOf (FailedSo why) (Store store.ReadFault)) (IsErrOf (FailedSo why) (Store store.WriteFault)) a b
-looked_only why a b no_read no_write looks =
-    publishes_so ⊥ (IsErrOf (FailedSo why) (Store store.WriteFault)) (IsErrOf (FailedSo why) (Store store.ReadFault)) (IsErrOf (FailedSo why) (Store store.WriteFault)) a b
-    (λ e. no_read cc) (λ e. absurd e) (λ e. e) (λ e. e) (looked ⊥ (IsErrOf (FailedSo why) (Store store.WriteFault)) a b (λ e. no_write cc) looks)
-
--- looks that ended well
+-- a look that ended well
 pub fine : {F : Type 0} (a b : Seen) → ¬ F → ReadsNoByte F a b → ReadsNoByte ⊥ a b
 fine a b none looks = record { reads = reads_as a b looks.reads (λ e. absurd e) none; log = looks.log }
 
 -- ---- the rows
-
-pub long_rows : (fields : List Field) (text : List ℕ) → 134217728 < length text → csv_rows fields text ≡ Err (TooLong 134217728)
-long_rows fields text long =
-    let test : nat_lt 134217728 (length text) ≡ true = grind (arith, nat_tests) in
-    rw test refl
 
 module _ (fields : List Field) (text : List ℕ) (short : length text ≤ 134217728) where
   short_rows : csv_rows fields text ≡ given_by (rows_in csv_limits fields (records_of text))
@@ -99,9 +80,6 @@ module _ (fields : List Field) (text : List ℕ) (short : length text ≤ 134217
 
   pub rows_given : (rows : List (List Value)) → rows_in csv_limits fields (records_of text) ≡ Ok rows → csv_rows fields text ≡ Ok rows
   rows_given rows is = short_rows ∙ ap given_by is
-
-  pub fault_given : (fault : CsvFault) → rows_in csv_limits fields (records_of text) ≡ Err fault → csv_rows fields text ≡ Err (BadCsv fault)
-  fault_given fault is = short_rows ∙ ap given_by is
 
 le_told : (n m : ℕ) → nat_le n m ≡ true → n ≤ m
 le_told n m test = grind (arith, nat_tests)
@@ -122,9 +100,6 @@ are_rows_told fields rows test =
 pub own_given : (fields : List Field) (rows : List (List Value)) → are_rows fields rows ≡ true → own_rows fields rows ≡ Ok rows
 own_given fields rows test = ap (λ b. cond b (Ok rows) (Err BadRows)) test
 
-pub own_wrong : (fields : List Field) (rows : List (List Value)) → are_rows fields rows ≡ false → own_rows fields rows ≡ Err BadRows
-own_wrong fields rows test = ap (λ b. cond b (Ok rows) (Err BadRows)) test
-
 -- ---- a segment is built
 
 abbrev PlaceOnly : StoreFault → Type 0
@@ -136,18 +111,6 @@ module _ (table : Table) (name : List ℕ) (given : Given) where
 
   abbrev Cause : Segments → StoreFault → Type 0
   Cause segments f = WhyNotBuilt table name given segments (Store f)
-
-  -- no file was written, for a reason that is no fault of a device
-  pub refused_early : (why : Fault) (a b : Seen) → why ≢ Store store.ReadFault → why ≢ Store store.WriteFault → ((segments : Segments) → WhyNotBuilt table name given segments why) → ReadsNoByte ⊥ a b → Does a b (Err why)
-  refused_early why a b no_read no_write cause looks = record {
-    table = refl;
-    builds = λ segments kept. cause segments;
-    kept = looks.reads.held;
-    leaves = looked_only why a b no_read no_write looks;
-  }
-
-  pub refused_at_once : (why : Fault) (a : Seen) → why ≢ Store store.ReadFault → why ≢ Store store.WriteFault → ((segments : Segments) → WhyNotBuilt table name given segments why) → Does a a (Err why)
-  refused_at_once why a no_read no_write cause = refused_early why a a no_read no_write cause (no_look a)
 
   -- the store refused
   refused_so : (f : StoreFault) (a d : Seen) → ((segments : Segments) → Kept table segments a.held → Cause segments f) → d.held ≡ a.held
@@ -207,36 +170,47 @@ module _ (table : Table) (name : List ℕ) (given : Given) where
         → OnlyPublishes (IsErrOf (Failed f) store.ReadFault) (IsErrOf (Failed f) store.WriteFault) a d → Does a d (Err (Store f))
     unpublished f a d tells large only same leaves = refused_so f a d (own_cause f a.held tells large only) same leaves
 
-    abbrev WriteOnly : StoreFault → Type 0
-    WriteOnly f = IsErrOf (Failed f) store.TooLarge ⊎ IsErrOf (Failed f) store.WriteFault ⊎ IsErrOf (Failed f) store.NoMemory
+-- ---- a segment is dropped
 
-    write_cause : (f : StoreFault) → (IsErrOf (Failed f) store.TooLarge → trees_fit table rows ≡ false) → WriteOnly f → (segments : Segments) → Cause segments f
-    write_cause f large (inl e) segments = subst (Cause segments) (sym (inner f store.TooLarge e)) (large_cause rows is (large e) segments)
-    write_cause f large (inr (inl e)) segments = subst (Cause segments) (sym (inner f store.WriteFault e)) tt
-    write_cause f large (inr (inr e)) segments = subst (Cause segments) (sym (inner f store.NoMemory e)) tt
+removes_so : (R W R' W' : Type 0) (a b : Seen) → (R' → R) → (R → R') → (W' → W) → (W → W') → OnlyRemoves R W a b → OnlyRemoves R' W' a b
+removes_so R W R' W' a b to_r from_r to_w from_w p = record {
+  parts = p.parts;
+  log = p.log;
+  reads_later = p.reads_later;
+  read_failed = λ r. p.read_failed (to_r r);
+  reads_still = λ none. p.reads_still (λ r. none (from_r r));
+  writes_later = p.writes_later;
+  write_failed = λ w. p.write_failed (to_w w);
+  writes_still = λ none. p.writes_still (λ w. none (from_w w));
+}
 
-    write_unread : (f : StoreFault) → WriteOnly f → ¬ IsErrOf (Failed f) store.ReadFault
-    write_unread f (inl e) is = absurd cc
-    write_unread f (inr (inl e)) is = absurd cc
-    write_unread f (inr (inr e)) is = absurd cc
+module _ (table : Table) (name : List ℕ) (a d : Seen) where
+  pub dropped : {R W : Type 0} → HasSegment a.held name → d.held ≡ without_file (file_of name) a.held → ¬ R → ¬ W → OnlyRemoves R W a d → Drops name (over table a) (over table d) (Ok tt)
+  dropped {R = R} {W = W} has now unread unwritten leaves = record {
+    table = refl;
+    drops = λ segments kept. (taken_so table segments name a.held kept has, subst (Kept table (map.remove segments name)) (sym now) (removed_so table segments name a.held kept));
+    kept = tt;
+    leaves = removes_so R W (IsErrOf Done (Store store.ReadFault)) (IsErrOf Done (Store store.WriteFault)) a d (λ e. absurd cc) (λ r. absurd (unread r)) (λ e. absurd cc) (λ w. absurd (unwritten w)) leaves;
+  }
 
-    -- nor those of a text
-    pub unwritten : (f : StoreFault) (a b d : Seen) → ReadsNoByte ⊥ a b → (IsErrOf (Failed f) store.TooLarge → trees_fit table rows ≡ false) → WriteOnly f → d.held ≡ b.held
-        → OnlyWrites (IsErrOf (Failed f) store.WriteFault) incoming b d → Does a d (Err (Store f))
-    unwritten f a b d looks large only same writes =
-        refused_so f a d (λ segments kept. write_cause f large only segments) (same ∙ looks.reads.held)
-        (looked_then ⊥ (IsErrOf (Failed f) store.ReadFault) (IsErrOf (Failed f) store.WriteFault) a b d (λ e. e) (write_unread f only) looks writes)
+  abbrev DropOnly : StoreFault → Type 0
+  DropOnly f = IsErrOf (Failed f) store.NoSegment ⊎ IsErrOf (Failed f) store.ReadFault ⊎ IsErrOf (Failed f) store.WriteFault ⊎ IsErrOf (Failed f) store.NoMemory
 
--- the fault of a CSV text
-pub csv_refused : (table : Table) (name text : List ℕ) (a b : Seen) (fault : CsvFault) → length text ≤ 134217728 → (fault ≢ csv.NoMemory → rows_in csv_limits table.schema.fields (records_of text) ≡ Err fault) → ReadsNoByte ⊥ a b
-    → Builds name (csv_rows table.schema.fields text) (over table a) (over table b) (Err (of_csv fault))
-csv_refused table name text a b (csv.At kind row column) short is looks =
-    refused_early table name (csv_rows table.schema.fields text) (BadCsv (csv.At kind row column)) a b (λ e. cc) (λ e. cc) (λ segments. fault_given table.schema.fields text short (csv.At kind row column) (is (λ e. cc))) looks
-csv_refused table name text a b (csv.TooManyRows most) short is looks =
-    refused_early table name (csv_rows table.schema.fields text) (BadCsv (csv.TooManyRows most)) a b (λ e. cc) (λ e. cc) (λ segments. fault_given table.schema.fields text short (csv.TooManyRows most) (is (λ e. cc))) looks
-csv_refused table name text a b csv.TooManyColumns short is looks =
-    refused_early table name (csv_rows table.schema.fields text) (BadCsv csv.TooManyColumns) a b (λ e. cc) (λ e. cc) (λ segments. fault_given table.schema.fields text short csv.TooManyColumns (is (λ e. cc))) looks
-csv_refused table name text a b csv.NoMemory short is looks = refused_early table name (csv_rows table.schema.fields text) (Store store.NoMemory) a b (λ e. cc) (λ e. cc) (λ segments. tt) looks
+  drop_cause : (f : StoreFault) → (IsErrOf (Failed f) store.NoSegment → LacksSegment a.held name) → DropOnly f → (segments : Segments) → Kept table segments a.held → DropsFrom name segments (over table d) (Err (Store f))
+  drop_cause f lacks (inl e) segments kept = subst (λ g. DropsFrom name segments (over table d) (Err (Store g))) (sym (inner f store.NoSegment e)) (lacks_so table segments name a.held kept (lacks e))
+  drop_cause f lacks (inr (inl e)) segments kept = subst (λ g. DropsFrom name segments (over table d) (Err (Store g))) (sym (inner f store.ReadFault e)) tt
+  drop_cause f lacks (inr (inr (inl e))) segments kept = subst (λ g. DropsFrom name segments (over table d) (Err (Store g))) (sym (inner f store.WriteFault e)) tt
+  drop_cause f lacks (inr (inr (inr e))) segments kept = subst (λ g. DropsFrom name segments (over table d) (Err (Store g))) (sym (inner f store.NoMemory e)) tt
+
+  pub undropped : (f : StoreFault) → (IsErrOf (Failed f) store.NoSegment → LacksSegment a.held name) → DropOnly f → d.held ≡ a.held → OnlyRemoves (IsErrOf (Failed f) store.ReadFault) (IsErrOf (Failed f) store.WriteFault) a d
+      → Drops name (over table a) (over table d) (Err (Store f))
+  undropped f lacks only same leaves = record {
+    table = refl;
+    drops = drop_cause f lacks only;
+    kept = same;
+    leaves = removes_so (IsErrOf (Failed f) store.ReadFault) (IsErrOf (Failed f) store.WriteFault) (IsErrOf (FailedSo (Store f)) (Store store.ReadFault)) (IsErrOf (FailedSo (Store f)) (Store store.WriteFault)) a d
+        (from_own f store.ReadFault) (to_own f store.ReadFault) (from_own f store.WriteFault) (to_own f store.WriteFault) leaves;
+  }
 
 -- ---- the store is read
 

@@ -1,8 +1,8 @@
 -- A store over a depot that tells its files, and the segments that these are of.
-use Rattle.std.proofs.Common.{◌≡◌, ℕ, List, Option, Some, None, Ok, false, true, IfSome, length, get_or, ◌<◌, refl, sym, subst}
-use Rattle.std.specs.Prelude.{IsSomeAnd, is_some, All}
+use Rattle.std.proofs.Common.{◌≡◌, ℕ, List, [], Option, Some, None, false, true, IfSome, length, get_or, ◌<◌, ◌≤◌, sym, subst}
+use Rattle.std.specs.Prelude.{IsSomeAnd, is_some}
 use Rattle.std.specs.FinMap as map
-use Rattle.outside.specs.Files.{Files, Has, Lacks, OfFile, with_file, without_file}
+use Rattle.outside.specs.Files.{Files, Lacks, OfFile, with_file, without_file}
 use Rattle.values.specs.declared.value.Value.{Value}
 use Rattle.table_schema.specs.declared.table.Table.{Table}
 use Rattle.segment_file.specs.Image.{CanHold, image}
@@ -13,10 +13,10 @@ use Rattle.sql_reply.specs.SqlReply.{SqlReply, sql_reply}
 use Rattle.table_store.specs.Accepted.{IsAccepted, IsNoTableFile, IsTableFile}
 use Rattle.table_store.specs.Segments.{AreFirstNames, HasRoom, HasSegment, IsFull, LacksSegment, most_segments}
 use Rattle.table_store.specs.Stands.{Stands, segment_of}
-use Rattle.table_store.specs.State.{HasTable, NoTable, Segments, State, Texts}
+use Rattle.table_store.specs.State.{HasTable, NoTable, Segments, Texts}
 use Rattle.table_store.specs.TableFile.{table_file, table_name}
 use Rattle.table_store.proofs.DropLemmas.{drop_stands}
-use Rattle.table_store.proofs.StandsLemmas.{create_stands, none_there, one_there, table_stands}
+use Rattle.table_store.proofs.StandsLemmas.{create_stands, one_there, table_stands}
 use Rattle.command_model.specs.Queried.{all_rows}
 use Rattle.command_model.proofs.MachineLemmas.{came, names_all, rows_right, segment_lacks, segment_put, segment_taken, segments_fewer, segments_full, table_right}
 use Rattle.command_model.proofs.StoredLemmas.{first_have}
@@ -80,10 +80,6 @@ still_kept old new segments tables held kept = subst (Kept new.table segments) (
 pub made_so : (texts : Texts) (table : Table) (held : Option Files) → IsAccepted texts table → IsSomeAnd held (λ files. Stands files NoTable) → Kept table map.empty (with_file table_name (table_file texts) held)
 made_so texts table None accepted none = absurd none
 made_so texts table (Some files) accepted none = (texts, accepted, create_stands files texts table none accepted)
-
-pub exists_so : {A : Type 0} (held : Option Files) → Has held table_name → IsSomeAnd held (λ files. Stands files NoTable) → A
-exists_so None has none = absurd none
-exists_so (Some files) has none = none_there files none has
 
 module _ (texts : Texts) (segments : Segments) where
   pub opened_so : (table : Table) (held : Option Files) → OfFile held table_name (λ bytes. IsTableFile bytes table) → IsSomeAnd held (λ files. Stands files (HasTable texts segments)) → Kept table segments held

@@ -13,11 +13,7 @@ use table_schema::Table;
 use table_store::segment_names;
 
 /// The names of the segments of a table.
-pub fn list_names<D: Depot>(
-    alloc: Global,
-    depot: &mut D,
-    table: &Table,
-) -> Result<Seq<Name>, Fault>
+pub fn list_names<D: Depot>(alloc: Global, depot: &mut D, table: &Table) -> Result<Seq<Name>, Fault>
     ensures { Lists (over table.now (seen D.Shelf depot.old))
         (over table.now (seen D.Shelf depot.new)) result }
 {

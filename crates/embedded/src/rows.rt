@@ -27,12 +27,12 @@ fn all_are_rows(fields: &[Field], rows: &[Row]) -> bool
 fn is_row(fields: &[Field], row: &[Value]) -> bool
     ensures { result ≡ table.is_row fields.now row.now }
 {
-    match (fields, row) {
-        ([], []) => true,
-        ([field, fields @ ..], [value, row @ ..]) => {
-            fits(field.kind, value) && is_row(fields, row)
-        }
-        _ => false,
+    match fields {
+        [] => row.is_empty(),
+        [field, fields @ ..] => match row {
+            [] => false,
+            [value, row @ ..] => fits(field.kind, value) && is_row(fields, row),
+        },
     }
 }
 

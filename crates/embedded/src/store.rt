@@ -6,10 +6,10 @@ ghost use Rattle.embedded.specs.Making.{IsMade, IsNotMade, IsNotOpened, IsOpened
 ghost use Rattle.embedded.specs.Rows.{csv_rows, own_rows};
 ghost use Rattle.embedded.specs.Stores.{store_seen};
 
-use crate::{Fault, Refused};
 use crate::building::{build_of_csv, build_of_rows, drop_named};
 use crate::making::{make_table, open_stored};
 use crate::reading::{answer, list_names};
+use crate::{Fault, Refused};
 use outside::{Bytes, Depot, Name, Seq};
 use std::alloc::Global;
 use std::marker::Model;
