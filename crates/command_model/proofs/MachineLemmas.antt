@@ -19,8 +19,8 @@ use Rattle.json_keys.specs.declared.fault.TextFault.TheVariants as fault
 use Rattle.table_schema.specs.declared.field.Schema.{Schema}
 use Rattle.table_schema.specs.declared.settings.Settings.{Settings}
 use Rattle.table_schema.specs.declared.table.Table.{Table}
-use Rattle.segment_file.specs.Image.{file_of_rows, front_of, image}
-use Rattle.segment_file.specs.Names.{file_of}
+use Rattle.segment_file.specs.Image.{CanHold, file_of_rows, front_of, image}
+use Rattle.segment_file.specs.Names.{IsSegmentName, file_of}
 use Rattle.segment_file.specs.Ordered.{ordered}
 use Rattle.segment_file.proofs.RuleLaws.{fronts_one}
 use Rattle.sql_reply.specs.Asked.{asked}
@@ -35,7 +35,7 @@ use Rattle.segment_reads.proofs.NameLemmas.{names_live}
 use Rattle.segment_head.specs.Stored.{HasImage, live, names_of, stored_rows}
 use Rattle.query_executor.specs.Stated.{IsStated, stated, stated_by}
 use Rattle.table_store.specs.Accepted.{IsAccepted, IsNoTableFile}
-use Rattle.table_store.specs.Segments.{AreFirstNames, IsFull, has_segment, most_segments}
+use Rattle.table_store.specs.Segments.{AreFirstNames, HasRoom, HasSegment, IsFull, LacksSegment, has_segment, most_segments}
 use Rattle.table_store.specs.Stands.{IsSegment, Stands, segment_file, segment_of}
 use Rattle.table_store.specs.State as state
 use Rattle.table_store.specs.State.{Segment, State, NoTable, HasTable, Segments}
@@ -50,7 +50,7 @@ use Rattle.command_words.specs.Command.{Build, Command, Create, Drop, Listing, S
 use Rattle.command_model.specs.Drop.{DropRefuses, IsDropped, IsMissing}
 use Rattle.command_model.specs.Create.{Made, beside, json_bytes, json_in, new_table, read_by, schema_in, settings_in, table_of, with_settings}
 use Rattle.command_model.proofs.StoredLemmas.{table_segments}
-use Rattle.command_model.specs.Queried.{HasNoReply, HasReply, IsFaultOf, IsQueried, IsWrongImage, QueryRefuses, rows_in}
+use Rattle.command_model.specs.Queried.{HasNoReply, HasReply, IsFaultOf, IsQueried, IsWrongImage, QueryRefuses, all_rows, rows_in}
 use Rattle.command_words.specs.declared.about.About.{About}
 use Rattle.command_words.specs.declared.about.About.TheVariants.{Plans, Rows, RowsAndPlans}
 use Rattle.command_model.specs.Ran.{Builds, Drops, IsStepped, Lists, Over, Queries, TableIsThere, WhereStands, files_after}
@@ -251,6 +251,29 @@ no_place stored stands name csv inputs line (inl (inr (inl t))) = let (bytes, go
 no_place stored stands name csv inputs line (inl (inr (inr m))) = let (bytes, got, is) = m.table_is in none_there stored stands (bytes, got)
 no_place stored stands name csv inputs line (inr l) = let (bytes, got, is) = l.place.table_is in none_there stored stands (bytes, got)
 
+-- a place for one segment more of a state
+module _ (stored : Files) (texts : state.Texts) (segments : Segments) (stands : Stands stored (HasTable texts segments)) where
+  pub segment_taken : (name : List ℕ) → HasSegment (Some stored) name → is_some (map.get segments name) ≡ true
+  segment_taken name (bytes, got) = some_mapped (segment_file stands.table name) (map.get segments name) bytes (sym (segment_there stored texts segments stands name) ∙ got)
+
+  pub segment_lacks : (name : List ℕ) → LacksSegment (Some stored) name → map.get segments name ≡ None
+  segment_lacks name lacks = none_mapped (segment_file stands.table name) (map.get segments name) (sym (segment_there stored texts segments stands name) ∙ lacks)
+
+  pub segments_full : IsFull stored → most_segments ≤ map.len segments
+  segments_full (all, are, most) =
+      let count : length all ≡ map.len segments = names_count stored texts segments all stands are in
+      omega (arith, count, most)
+
+  pub segments_fewer : HasRoom stored → map.len segments < most_segments
+  segments_fewer (all, are, fewer) =
+      let count : length all ≡ map.len segments = names_count stored texts segments all stands are in
+      omega (arith, count, fewer)
+
+  -- the image of rows under a name that no segment has is one segment more
+  pub segment_put : (table : Table) (name : List ℕ) (rows : List (List Value)) → IsAccepted texts table → IsSegmentName name → CanHold table rows → LacksSegment (Some stored) name → HasRoom stored
+      → Stands (map.insert stored (file_of name) (image 1 table name rows)) (HasTable texts (map.insert segments name (segment_of table rows)))
+  segment_put table name rows accepted named can lacks room = segment_stands stored texts segments table name rows stands accepted named can (segments_fewer room) (segment_lacks name lacks)
+
 module _ (stored : Files) (texts : state.Texts) (segments : Segments) (stands : Stands stored (HasTable texts segments)) (name csv : List ℕ) (inputs : Files) where
   abbrev Built : After
   Built = built (HasTable texts segments) name csv inputs
@@ -263,26 +286,23 @@ module _ (stored : Files) (texts : state.Texts) (segments : Segments) (stands : 
   by_rows table rows is are = ap (with_table texts segments name csv inputs) (read_as texts table (accepted_as table is)) ∙ ap (with_rows texts segments name table) are
 
   taken_rows : (table : Table) → Has (Some stored) (file_of name) → new_rows table segments name csv inputs ≡ Err (note.NameTaken name)
-  taken_rows table (bytes, got) =
-      let there : is_some (map.get segments name) ≡ true = some_mapped (segment_file stands.table name) (map.get segments name) bytes (sym (segment_there stored texts segments stands name) ∙ got) in
+  taken_rows table has =
+      let there : is_some (map.get segments name) ≡ true = segment_taken stored texts segments stands name has in
       rw there refl
 
   free_name : Lacks (Some stored) (file_of name) → map.get segments name ≡ None
-  free_name lacks = none_mapped (segment_file stands.table name) (map.get segments name) (sym (segment_there stored texts segments stands name) ∙ lacks)
+  free_name lacks = segment_lacks stored texts segments stands name lacks
 
   many_rows : (table : Table) → Lacks (Some stored) (file_of name) → IsFull stored → new_rows table segments name csv inputs ≡ Err (note.TooLarge counted.Segments most_segments)
-  many_rows table lacks (all, are, most) =
+  many_rows table lacks full =
       let free : is_some (map.get segments name) ≡ false = ap is_some (free_name lacks) in
-      let count : length all ≡ map.len segments = names_count stored texts segments all stands are in
-      let test : nat_le 512 (map.len segments) ≡ true = as_many (map.len segments) (omega (arith, count, most)) in
+      let test : nat_le 512 (map.len segments) ≡ true = as_many (map.len segments) (segments_full stored texts segments stands full) in
       rw free (rw test refl)
 
   placed_rows : (table : Table) (rows : Result (List (List Value)) Note) → HasPlace stored name table → segment_rows table csv (map.get inputs csv) ≡ rows → new_rows table segments name csv inputs ≡ rows
   placed_rows table rows place are =
       let free : is_some (map.get segments name) ≡ false = ap is_some (free_name place.free) in
-      let (all, names, fewer) = place.room in
-      let count : length all ≡ map.len segments = names_count stored texts segments all stands names in
-      let test : nat_le 512 (map.len segments) ≡ false = fewer_still (map.len segments) (omega (arith, count, fewer)) in
+      let test : nat_le 512 (map.len segments) ≡ false = fewer_still (map.len segments) (segments_fewer stored texts segments stands place.room) in
       rw free (rw test are)
 
   left_as : (table : Table) (line : Note) (new : Option Files) → Built ≡ with_rows texts segments name table (Err line) → new ≡ Some stored → IsStepped Built (Refuses line) new
@@ -299,9 +319,7 @@ module _ (stored : Files) (texts : state.Texts) (segments : Segments) (stands : 
 
   built_step : (text : List ℕ) (new : Option Files) → IsBuilt inputs stored name csv text new → IsStepped Built (Replies text) new
   built_step text new b =
-      let (all, are, fewer) = b.place.room in
-      let count : length all ≡ map.len segments = names_count stored texts segments all stands are in
-      let stands_so = segment_stands stored texts segments b.table name b.rows stands (accepted_as b.table b.place.table_is) b.named b.can (omega (arith, count, fewer)) (free_name b.place.free) in
+      let stands_so = segment_put stored texts segments stands b.table name b.rows (accepted_as b.table b.place.table_is) b.named b.can b.place.free b.place.room in
       subst (λ after. IsStepped after (Replies text) new) (sym (by_rows b.table (Ok b.rows) b.place.table_is (placed_rows b.table (Ok b.rows) b.place b.rows_are)))
       (record { answers = ap Replies b.text_is; stands = subst (λ n. IsSomeAnd n (λ files. Stands files (HasTable texts (map.insert segments name (segment_of b.table b.rows))))) (sym b.leaves) stands_so })
 
@@ -320,13 +338,12 @@ module _ (stored : Files) (texts : state.Texts) (segments : Segments) (stands : 
 
   dropped_step : (text : List ℕ) (new : Option Files) → IsDropped stored name text new → IsStepped (dropped (HasTable texts segments) name) (Replies text) new
   dropped_step text new d =
-      let (bytes, got) = d.there in
-      by_name true (Replies text) new (some_mapped (segment_file stands.table name) (map.get segments name) bytes (sym (segment_there stored texts segments stands name) ∙ got))
+      by_name true (Replies text) new (segment_taken stored texts segments stands name d.there)
       (record { answers = ap Replies d.text_is; stands = stays (map.remove stored (file_of name)) (HasTable texts (map.remove segments name)) new (drop_stands stored texts segments name stands) d.leaves })
 
   missing_step : (line : Note) (new : Option Files) → IsMissing stored name line → new ≡ Some stored → IsStepped (dropped (HasTable texts segments) name) (Refuses line) new
   missing_step line new m same =
-      by_name false (Refuses line) new (ap is_some (none_mapped (segment_file stands.table name) (map.get segments name) (sym (segment_there stored texts segments stands name) ∙ m.none)))
+      by_name false (Refuses line) new (ap is_some (segment_lacks stored texts segments stands name m.none))
       (record { answers = ap Refuses m.line_is; stands = stays stored (HasTable texts segments) new stands same })
 
 drop_step : (stored : Files) (name : List ℕ) (answer : Answer) (new : Option Files) (before : State) → Stands stored before → Drops name stored answer new → IsStepped (dropped before name) answer new
@@ -372,13 +389,17 @@ module _ (stored : Files) (texts : state.Texts) (segments : Segments) (stands : 
       let (more, have, are, alike) = all_came names (λ k lt. there (suc k) (omega arith)) in
       (first ∷ more, (has, have), (λ i. is i ++ are i), (λ i. is i ∷ alike i))
 
-  -- a reply over the segments that have files is the one over those of the state
-  reply_right : (about : About) (names : List (List ℕ)) (sql : List ℕ) (reply : SqlReply) → AreFirstNames stored names → HasReply about table stored names sql reply → query_answer about (HasTable texts segments) sql ≡ sql_answered reply
-  reply_right Rows names sql reply are is =
+  -- a reply over the segments that have files is the one over all rows of the state
+  pub rows_right : (names : List (List ℕ)) (sql : List ℕ) (reply : SqlReply) → AreFirstNames stored names → IsReply table stored (each live names) sql reply → sql_reply table false sql (all_rows segments) ≡ reply
+  rows_right names sql reply are is =
       let keys : names ≡ map.keys segments = names_all stored texts segments stands names are in
       let (rows, have, same, alike) = all_came (map.keys segments) (key_there stored texts segments stands) in
       let replies : sql_reply table false sql (stored_rows table rows) ≡ reply = subst (λ ns. IsReply table stored (each live ns) sql reply) keys is rows have in
-      ap (rows_answer Rows segments sql) (read_as texts table accepted) ∙ ap (λ of. sql_answered (sql_reply table false sql of)) (sym same) ∙ ap sql_answered replies
+      ap (sql_reply table false sql) (sym same) ∙ replies
+
+  -- what is said of them is what is said of those of the state
+  reply_right : (about : About) (names : List (List ℕ)) (sql : List ℕ) (reply : SqlReply) → AreFirstNames stored names → HasReply about table stored names sql reply → query_answer about (HasTable texts segments) sql ≡ sql_answered reply
+  reply_right Rows names sql reply are is = ap (rows_answer Rows segments sql) (read_as texts table accepted) ∙ ap sql_answered (rows_right names sql reply are is)
   reply_right Plans names sql reply are is =
       let keys : names ≡ map.keys segments = names_all stored texts segments stands names are in
       let (rows, have, same, alike) = all_came (map.keys segments) (key_there stored texts segments stands) in

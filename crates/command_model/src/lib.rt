@@ -13,5 +13,5 @@ pub use input::read_input;
 pub use laws::may_write_law;
 pub use new_table::{NewTable, read_table};
 pub use part_name::segment_stop;
-pub use rows::read_rows;
+pub use rows::{csv_columns, read_rows};
 pub use store::{stored_names, stored_table, table_with_place};

@@ -1,5 +1,5 @@
 //! The rows of a CSV file over the fields of a table.
-ghost use Rattle.std.specs.Prelude.{◌≡◌, ◌≢◌, ◌≤◌, length, Ok, IfOk, IfErr, IfSome, IsErrOf};
+ghost use Rattle.std.specs.Prelude.{◌≡◌, ◌≢◌, ◌≤◌, length, Ok, Err, IfOk, IfErr, IfSome, IsErrOf};
 ghost use Rattle.std.specs.FinMap as map;
 ghost use Rattle.std.specs.List.{All};
 ghost use Rattle.outside.specs.Counts.{Rose};
@@ -46,7 +46,24 @@ pub fn read_rows<I: Shelf>(
     columns_of(alloc, table, text.as_slice())
 }
 
-// The rows of a CSV text over the fields of a table, column by column.
+/// The rows of a CSV text over the fields of a table, column by column.
+pub fn csv_columns(alloc: Global, table: &Table, text: &[u8]) -> Result<Columns, CsvFault>
+    requires valid { IsValidTable table.now }
+    requires short { length text.now ≤ csv_limit }
+    ensures rows { IfOk result (λ columns.
+        rows_in csv_limits table.now.schema.fields (records_of text.now) ≡ Ok (rows_of columns)) }
+    ensures made { MakesColumns table.now.schema.fields result }
+    ensures refused { IfErr result (λ fault. fault ≢ CsvFault.NoMemory →
+        rows_in csv_limits table.now.schema.fields (records_of text.now) ≡ Err fault) }
+{
+    look_at_defaults(table.schema.fields.as_slice());
+    match read_columns(alloc, &table.schema, text) {
+        Ok(columns) => Ok(columns),
+        Err(fault) => Err(fault),
+    }
+}
+
+// The same for a command.
 fn columns_of(alloc: Global, table: &Table, text: &[u8]) -> Result<Columns, Stop>
     requires valid { IsValidTable table.now }
     requires short { length text.now ≤ csv_limit }
@@ -56,8 +73,7 @@ fn columns_of(alloc: Global, table: &Table, text: &[u8]) -> Result<Columns, Stop
     ensures stops { IfErr result
         (StopsText (rows_in csv_limits table.now.schema.fields (records_of text.now))) }
 {
-    look_at_defaults(table.schema.fields.as_slice());
-    match read_columns(alloc, &table.schema, text) {
+    match csv_columns(alloc, table, text) {
         Ok(columns) => Ok(columns),
         Err(fault) => Err(stop_of(fault)),
     }
