@@ -4,6 +4,7 @@ use Rattle.std.proofs.lemmas.Bool.Decides.{nat_tests}
 use Rattle.std.proofs.lemmas.List.Elements.{All-cons, All-nil}
 use Rattle.std.specs.List.{list_all}
 use Rattle.std.specs.FinMap as map
+use Rattle.std.specs.Prelude.{map as each}
 use Rattle.outside.specs.Files.{Files, with_file, without_file}
 use Rattle.outside.specs.Seen.{OnlyReads, Seen}
 use Rattle.values.specs.declared.value.Value.{Value}
@@ -17,7 +18,9 @@ use Rattle.segment_file.specs.Image.{CanHold, image}
 use Rattle.segment_file.specs.Names.{IsSegmentName, file_of}
 use Rattle.segment_file.specs.declared.part.Part.{Part}
 use Rattle.segment_file.proofs.ImageRows.{and_first, and_second}
-use Rattle.segment_head.specs.Stored.{HasNoImage}
+use Rattle.segment_head.specs.Stored.{HasNoImage, live, segment_at}
+use Rattle.segment_reads.proofs.NameLemmas.{live_at, live_count}
+use Rattle.query_executor.specs.Passes.{IsBadAsked}
 use Rattle.query_executor.specs.Answers.{IsReply}
 use Rattle.query_executor.specs.declared.fault.ExecutorFault.{ExecutorFault}
 use Rattle.query_executor.specs.declared.fault.ExecutorFault.TheVariants as executor
@@ -220,6 +223,12 @@ Unanswered f = Err f
 abbrev UnansweredSo : Fault → Result (List ℕ) Fault
 UnansweredSo why = Err why
 
+-- a part that is refused is that of a file that is no image
+pub not_image : (table : Table) (names : List (List ℕ)) (sql : List ℕ) (held : Option Files) (at : ℕ) (part : Part) → (at < length (each live names)) × IsBadAsked table sql held (segment_at (each live names) at) part
+    → (at < length names) × IfSome held (λ files. HasNoImage table files (live (get_or names at [])))
+not_image table names sql held at part (lt, (query, asks, bad)) =
+    (omega (arith, lt, live_count names), subst (λ s. IfSome held (λ files. HasNoImage table files s)) (live_at names at) bad.1)
+
 module _ (table : Table) (names : List (List ℕ)) (sql : List ℕ) (a b c : Seen) (looks : ReadsNoByte ⊥ a b) (are : IfSome a.held (λ files. AreFirstNames files names)) where
   reads_both : (R : Type 0) → OnlyReads R b c → OnlyReads R a c
   reads_both R reads = reads_then a b c looks.reads reads
@@ -227,23 +236,23 @@ module _ (table : Table) (names : List (List ℕ)) (sql : List ℕ) (a b c : See
   before : (P : Option Files → Type 0) → P b.held → P a.held
   before P h = subst P looks.reads.held h
 
-  pub answered : {R : Type 0} (text : List ℕ) → ¬ R → IfSome b.held (λ files. IsReply table files names sql (Ok text)) → OnlyReads R b c → Answers sql (over table a) (over table c) (Ok text)
+  pub answered : {R : Type 0} (text : List ℕ) → ¬ R → IfSome b.held (λ files. IsReply table files (each live names) sql (Ok text)) → OnlyReads R b c → Answers sql (over table a) (over table c) (Ok text)
   answered {R = R} text unread is reads = record {
     table = refl;
-    answers = λ segments kept. reply_so table segments names sql (Ok text) a.held kept are (before (λ h. IfSome h (λ files. IsReply table files names sql (Ok text))) is);
+    answers = λ segments kept. reply_so table segments names sql (Ok text) a.held kept are (before (λ h. IfSome h (λ files. IsReply table files (each live names) sql (Ok text))) is);
     leaves = reads_as a c (reads_both R reads) (λ e. absurd cc) (λ r. absurd (unread r));
   }
 
   -- the query has no reply, for its text or its groups
-  wrong_so : {R : Type 0} (wrong : SqlFault) → ¬ R → IfSome b.held (λ files. IsReply table files names sql (Err wrong)) → OnlyReads R b c → Answers sql (over table a) (over table c) (Err (BadQuery wrong))
+  wrong_so : {R : Type 0} (wrong : SqlFault) → ¬ R → IfSome b.held (λ files. IsReply table files (each live names) sql (Err wrong)) → OnlyReads R b c → Answers sql (over table a) (over table c) (Err (BadQuery wrong))
   wrong_so {R = R} wrong unread is reads = record {
     table = refl;
-    answers = λ segments kept. reply_so table segments names sql (Err wrong) a.held kept are (before (λ h. IfSome h (λ files. IsReply table files names sql (Err wrong))) is);
+    answers = λ segments kept. reply_so table segments names sql (Err wrong) a.held kept are (before (λ h. IfSome h (λ files. IsReply table files (each live names) sql (Err wrong))) is);
     leaves = reads_as a c (reads_both R reads) (λ e. absurd cc) (λ r. absurd (unread r));
   }
 
-  pub unanswered : (f : ExecutorFault) → ((wrong : SqlFault) → Unanswered f ≡ Unanswered (executor.Sql wrong) → wrong ≢ query.NoMemory → IfSome b.held (λ files. IsReply table files names sql (Err wrong)))
-      → ((at : ℕ) (part : Part) → Unanswered f ≡ Unanswered (executor.NotASegment at part) → (at < length names) × IfSome b.held (λ files. HasNoImage table files (get_or names at [])))
+  pub unanswered : (f : ExecutorFault) → ((wrong : SqlFault) → Unanswered f ≡ Unanswered (executor.Sql wrong) → wrong ≢ query.NoMemory → IfSome b.held (λ files. IsReply table files (each live names) sql (Err wrong)))
+      → ((at : ℕ) (part : Part) → Unanswered f ≡ Unanswered (executor.NotASegment at part) → (at < length names) × IfSome b.held (λ files. HasNoImage table files (live (get_or names at []))))
       → OnlyReads (IsErrOf (Unanswered f) executor.ReadFault) b c → Answers sql (over table a) (over table c) (Err (of_query f))
   unanswered (executor.Sql (query.LongQuery most)) reply bad reads = wrong_so (query.LongQuery most) (λ e. cc) (reply (query.LongQuery most) refl (λ e. cc)) reads
   unanswered (executor.Sql (query.BadQuery wrong place)) reply bad reads = wrong_so (query.BadQuery wrong place) (λ e. cc) (reply (query.BadQuery wrong place) refl (λ e. cc)) reads
@@ -258,7 +267,7 @@ module _ (table : Table) (names : List (List ℕ)) (sql : List ℕ) (a b c : See
       let none = bad at part refl in
       record {
         table = refl;
-        answers = λ segments kept. image_so table segments names at a.held kept are none.0 (before (λ h. IfSome h (λ files. HasNoImage table files (get_or names at []))) none.1);
+        answers = λ segments kept. image_so table segments names at a.held kept are none.0 (before (λ h. IfSome h (λ files. HasNoImage table files (live (get_or names at [])))) none.1);
         leaves = reads_as a c (reads_both (IsErrOf (Unanswered (executor.NotASegment at part)) executor.ReadFault) reads) (λ e. absurd cc) (λ e. absurd cc);
       }
   unanswered executor.ReadFault reply bad reads = record {

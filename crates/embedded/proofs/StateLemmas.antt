@@ -1,13 +1,13 @@
 -- A store over a depot that tells its files, and the segments that these are of.
 use Rattle.std.proofs.Common.{◌≡◌, ℕ, List, [], Option, Some, None, false, true, IfSome, length, get_or, ◌<◌, ◌≤◌, sym, subst}
-use Rattle.std.specs.Prelude.{IsSomeAnd, is_some}
+use Rattle.std.specs.Prelude.{IsSomeAnd, is_some, map as each}
 use Rattle.std.specs.FinMap as map
 use Rattle.outside.specs.Files.{Files, Lacks, OfFile, with_file, without_file}
 use Rattle.values.specs.declared.value.Value.{Value}
 use Rattle.table_schema.specs.declared.table.Table.{Table}
 use Rattle.segment_file.specs.Image.{CanHold, image}
 use Rattle.segment_file.specs.Names.{IsSegmentName, file_of}
-use Rattle.segment_head.specs.Stored.{HasNoImage}
+use Rattle.segment_head.specs.Stored.{HasNoImage, live}
 use Rattle.query_executor.specs.Answers.{IsReply}
 use Rattle.sql_reply.specs.SqlReply.{SqlReply, sql_reply}
 use Rattle.table_store.specs.Accepted.{IsAccepted, IsNoTableFile, IsTableFile}
@@ -59,13 +59,13 @@ module _ (table : Table) (segments : Segments) where
   names_so names (Some files) (texts, accepted, stands) are = names_all files texts segments stands names are
 
   -- the reply over the segments that have files
-  pub reply_so : (names : List (List ℕ)) (sql : List ℕ) (reply : SqlReply) (held : Option Files) → Kept table segments held → IfSome held (λ files. AreFirstNames files names) → IfSome held (λ files. IsReply table files names sql reply)
+  pub reply_so : (names : List (List ℕ)) (sql : List ℕ) (reply : SqlReply) (held : Option Files) → Kept table segments held → IfSome held (λ files. AreFirstNames files names) → IfSome held (λ files. IsReply table files (each live names) sql reply)
       → sql_reply table false sql (all_rows segments) ≡ reply
   reply_so names sql reply None kept are is = absurd kept
   reply_so names sql reply (Some files) (texts, accepted, stands) are is = rows_right files texts segments stands table accepted names sql reply are is
 
   -- each of them has an image
-  pub image_so : {A : Type 0} (names : List (List ℕ)) (at : ℕ) (held : Option Files) → Kept table segments held → IfSome held (λ files. AreFirstNames files names) → at < length names → IfSome held (λ files. HasNoImage table files (get_or names at [])) → A
+  pub image_so : {A : Type 0} (names : List (List ℕ)) (at : ℕ) (held : Option Files) → Kept table segments held → IfSome held (λ files. AreFirstNames files names) → at < length names → IfSome held (λ files. HasNoImage table files (live (get_or names at []))) → A
   image_so names at None kept are lt none = absurd kept
   image_so names at (Some files) (texts, accepted, stands) are lt none =
       let (rows, has, is) = came files texts segments stands table accepted (get_or names at []) (first_have files names are at [] lt) in
