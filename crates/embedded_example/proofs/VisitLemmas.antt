@@ -13,17 +13,16 @@ use Rattle.segment_file.specs.Ordered.{ordered}
 use Rattle.sql_reply.specs.SqlReply.{sql_reply}
 use Rattle.table_store.specs.Accepted.{IsAccepted}
 use Rattle.table_store.specs.Stands.{segment_of}
-use Rattle.table_store.specs.State.{NoTable, Segment, Segments}
+use Rattle.table_store.specs.State.{NoTable, Segment, Segments, Texts}
 use Rattle.command_model.specs.Queried.{all_rows, rows_in}
 use Rattle.embedded.specs.Calls.{Answers, Builds}
-use Rattle.embedded.specs.Making.{IsMade, texts_of}
+use Rattle.embedded.specs.Making.{IsMade}
 use Rattle.embedded.specs.Rows.{are_rows, csv_rows, own_rows}
 use Rattle.embedded.specs.Stores.{IsState, Keeps, SeenStore}
 use Rattle.embedded.specs.declared.fault.Fault.{Fault}
 use Rattle.embedded.specs.declared.fault.Fault.TheVariants.{BadRows}
 use Rattle.embedded.proofs.StateLemmas.{still_kept}
 use Rattle.embedded_example.specs.Visits.{IsReplyOver}
-use Rattle.embedded_example.specs.declared.TheConstants.{SCHEMA, SETTINGS}
 
 -- ---- two segments, and the rows of both
 
@@ -70,15 +69,15 @@ no_state old is = subst (λ seen. IsState seen NoTable) (sym is) (λ name. map.g
 abbrev Done : Result (Unit {0}) Fault
 Done = Ok tt
 
-module _ (june : List ℕ) (july : List (List Value)) where
+module _ (texts : Texts) (june : List ℕ) (july : List (List Value)) where
   -- both segments are there, with the rows that were handed in
   pub record HasBoth (store : SeenStore) : Type 0 where
-    pub accepted : IsAccepted (texts_of SCHEMA.now SETTINGS.now) store.table
+    pub accepted : IsAccepted texts store.table
     pub rows : List (List Value)
     pub rows_are : csv_rows store.table.schema.fields june ≡ Ok rows
     pub keeps : Keeps store (Both (segment_of store.table rows) (segment_of store.table july))
 
-  pub has_both : (old : Seen) (s t u : SeenStore) → old ≡ told (fresh [] []) → IsMade (texts_of SCHEMA.now SETTINGS.now) old s → Builds (codes "june") (csv_rows s.table.schema.fields june) s t Done
+  pub has_both : (old : Seen) (s t u : SeenStore) → old ≡ told (fresh [] []) → IsMade texts old s → Builds (codes "june") (csv_rows s.table.schema.fields june) s t Done
       → Builds (codes "july") (own_rows t.table.schema.fields july) t u Done → HasBoth u
   has_both old s t u fresh_is made first second =
       let one = first.builds map.empty (made.keeps (no_state old fresh_is)) in
@@ -86,7 +85,7 @@ module _ (june : List ℕ) (july : List (List Value)) where
       let tables : u.table ≡ s.table = second.table ∙ first.table in
       let rows : two.rows ≡ july = own_same (are_rows t.table.schema.fields july) july two.rows two.rows_are in
       record {
-        accepted = subst (IsAccepted (texts_of SCHEMA.now SETTINGS.now)) (sym tables) made.table;
+        accepted = subst (IsAccepted texts) (sym tables) made.table;
         rows = one.rows;
         rows_are = subst (λ (table : Table). csv_rows table.schema.fields june ≡ Ok one.rows) (sym tables) one.rows_are;
         keeps = subst (λ (table : Table). Keeps u (Both (segment_of table one.rows) (segment_of u.table july))) (sym second.table)
@@ -96,14 +95,14 @@ module _ (june : List ℕ) (july : List (List Value)) where
   module _ (sql text : List ℕ) (old new : SeenStore) (answers : Answers sql old new (Ok text)) (has : HasBoth old) where
     pub still_both : HasBoth new
     still_both = record {
-      accepted = subst (IsAccepted (texts_of SCHEMA.now SETTINGS.now)) (sym answers.table) has.accepted;
+      accepted = subst (IsAccepted texts) (sym answers.table) has.accepted;
       rows = has.rows;
       rows_are = subst (λ (table : Table). csv_rows table.schema.fields june ≡ Ok has.rows) (sym answers.table) has.rows_are;
       keeps = subst (λ (table : Table). Keeps new (Both (segment_of table has.rows) (segment_of table july))) (sym answers.table)
           (still_kept old new (Both (segment_of old.table has.rows) (segment_of old.table july)) answers.table answers.leaves.held has.keeps);
     }
 
-    pub reply_over : IsReplyOver june july sql text
+    pub reply_over : IsReplyOver texts june july sql text
     reply_over = record {
       table = old.table;
       accepted = has.accepted;

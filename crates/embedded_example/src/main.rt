@@ -3,7 +3,8 @@
 #![tactic(auto)]
 
 ghost use Rattle.std.specs.Prelude.{IfOk};
-ghost use Rattle.embedded_example.specs.Visits.{IsReplyOver};
+ghost use Rattle.embedded.specs.Making.{texts_of};
+ghost use Rattle.embedded_example.specs.Visits.{AreReplies};
 
 use embedded::{Fault, Store};
 use memory_devices::MemoryDepot;
@@ -54,16 +55,18 @@ const BY_BROWSER: &str =
     "SELECT browser, COUNT(*), AVG(impressions) FROM visits GROUP BY browser ORDER BY COUNT(*) DESC LIMIT 1";
 
 // The replies to the three queries over the visits of June and of July.
-fn report(alloc: Global, june: &str, july: &Rows) -> Result<(Bytes, Bytes, Bytes), Fault>
-    ensures by_country { IfOk result (λ replies.
-        IsReplyOver june.now july.now BY_COUNTRY.now replies.0) }
-    ensures most { IfOk result (λ replies.
-        IsReplyOver june.now july.now MOST.now replies.1) }
-    ensures by_browser { IfOk result (λ replies.
-        IsReplyOver june.now july.now BY_BROWSER.now replies.2) }
+fn report(
+    alloc: Global,
+    schema: &str,
+    settings: &str,
+    june: &str,
+    july: &Rows,
+) -> Result<(Bytes, Bytes, Bytes), Fault>
+    ensures { IfOk result (AreReplies (texts_of schema.now settings.now) june.now july.now
+        BY_COUNTRY.now MOST.now BY_BROWSER.now) }
 {
     let depot = MemoryDepot::new(alloc, Seq::new(alloc), Seq::new(alloc))?;
-    let mut visits = Store::create(alloc, depot, SCHEMA.as_bytes(), SETTINGS.as_bytes())?;
+    let mut visits = Store::create(alloc, depot, schema.as_bytes(), settings.as_bytes())?;
     visits.build("june", june.as_bytes())?;
     visits.build_rows("july", july)?;
     let by_country = visits.query(BY_COUNTRY)?;
@@ -86,7 +89,7 @@ fn main(rt: HostRuntime) -> io::Result<()> {
     july.push(visit(alloc, "NZ", "Safari", 30)?)?;
     july.push(visit(alloc, "PE", "Chrome", 60)?)?;
     july.push(visit(alloc, "CH", "Safari", 10)?)?;
-    match report(alloc, JUNE, &july) {
+    match report(alloc, SCHEMA, SETTINGS, JUNE, &july) {
         // By hand: CH 120 + 80 + 10, NZ 200 + 50 + 30, PE 40 + 60; of Safari 80, 40, 30 and 10.
         Ok((by_country, most, by_browser)) => {
             let mut out = rt.stdout();
