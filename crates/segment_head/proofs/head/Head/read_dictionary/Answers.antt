@@ -99,9 +99,9 @@ returns-in-Err-clause-part g c = λ p is.
       own = s;
       at = c.dictionary_section.ensures;
       fails = inl (
-          (c.in-Err.ensures.short p is).0,
-          subst (λ f. IfSome (g.S.Shelf.held c.args.shelf.now) (λ files. length (bytes_of (Some files) f) < s.place.offset + s.place.length)) c.as_str-file.ensures (c.in-Err.ensures.short p is).1,
-        );
+        (c.in-Err.ensures.short p is).0,
+        subst (λ f. IfSome (g.S.Shelf.held c.args.shelf.now) (λ files. length (bytes_of (Some files) f) < s.place.offset + s.place.length)) c.as_str-file.ensures (c.in-Err.ensures.short p is).1,
+      );
     }
 
 pub returns-in-Ok-check_dictionary-clause-part : goal.returns-in-Ok-check_dictionary-clause-part
@@ -122,10 +122,10 @@ returns-clause-part g c = λ p is.
       own = s;
       at = c.dictionary_section.ensures;
       fails = inr (
-          (let same : p ≡ Dictionary column = cc in same),
-          none_there held (kind_at table column) c.args.self.now.rows c.in-Ok.bytes s.place
-              (subst (λ n. IfSome held (λ files. c.in-Ok.bytes ≡ bytes_at files n s.place.offset s.place.length)) c.as_str-file.ensures c.in-Ok.ensures.bytes)
-              (λ d spelled. c.in-Err-check_dictionary.ensures.bad (ap Err bad) d
-              (spelled_there _ _ _ _ _ _ d (sym kind) (sym (ap (λ h. h.rows) c.self.view_is)) (sym c.as_slice-2.ensures) spelled)),
-        );
+        (let same : p ≡ Dictionary column = cc in same),
+        none_there held (kind_at table column) c.args.self.now.rows c.in-Ok.bytes s.place
+            (subst (λ n. IfSome held (λ files. c.in-Ok.bytes ≡ bytes_at files n s.place.offset s.place.length)) c.as_str-file.ensures c.in-Ok.ensures.bytes)
+            (λ d spelled. c.in-Err-check_dictionary.ensures.bad (ap Err bad) d
+            (spelled_there _ _ _ _ _ _ d (sym kind) (sym (ap (λ h. h.rows) c.self.view_is)) (sym c.as_slice-2.ensures) spelled)),
+      );
     }
