@@ -1,4 +1,4 @@
-use Rattle.std.proofs.Common.{◌≤◌, ◌∙◌, length, ap, arith}
+use Rattle.std.proofs.Common.{◌∙◌, ap, arith}
 use Rattle.outside.specs.Files.{with_file}
 use Rattle.outside.specs.Seen.{Seen, seen}
 use Rattle.values.specs.Columns.{rows_of}

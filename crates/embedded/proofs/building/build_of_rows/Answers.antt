@@ -1,8 +1,7 @@
 use Rattle.std.proofs.Common.{◌≡◌, true, List, sym, subst, All}
-use Rattle.outside.specs.Seen.{Seen, seen}
+use Rattle.outside.specs.Seen.{seen}
 use Rattle.values.specs.declared.value.Value.{Value}
 use Rattle.value_ids.specs.Dictionary.{IsUnicode}
-use Rattle.segment_file.specs.Image.{CanHold}
 use Rattle.embedded.specs.Rows.{are_rows, own_rows}
 use Rattle.embedded.proofs.CallLemmas.{are_rows_told, own_given, published, unpublished}
 use Rattle.embedded.proofs.building.build_of_rows.Goals as goal
