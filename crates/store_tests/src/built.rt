@@ -79,18 +79,27 @@ fn is_stored(
     }
 }
 
-/// How the file of so many rows is given to a depot: the number of each, from 1 on, and what is
+/// How the file of so many rows is given to a depot: the number of each, from 0 on, and what is
 /// left of it by 7 and by 11.
-pub fn generated(alloc: Global, table: &Table, rows: u32) -> Result<String, AllocError>
+pub fn generated(alloc: Global, table: &Table, name: &str, rows: u32) -> Result<String, AllocError>
     requires valid { IsValidTable table.now }
 {
+    let text = numbered(alloc, rows)?;
+    if !is_segment_name(name) || text.len() as u64 > CSV_LIMIT {
+        return String::from_str(alloc, "not tried");
+    }
+    match read_columns(alloc, &table.schema, text.as_bytes()) {
+        Ok(columns) => appends(alloc, table, name, &columns),
+        Err(fault) => format!(in alloc; "{fault:?}"),
+    }
+}
+
+// The CSV text of these rows.
+fn numbered(alloc: Global, rows: u32) -> Result<String, AllocError> {
     let mut text = String::from_str(alloc, "a,b,m\n")?;
     for row in 0..rows {
         let line = format!(in alloc; "{},{},{row}\n", row % 7, row % 11)?;
         text.push_str(line.as_str())?;
     }
-    match read_columns(alloc, &table.schema, text.as_bytes()) {
-        Ok(columns) => appends(alloc, table, "g", &columns),
-        Err(fault) => format!(in alloc; "{fault:?}"),
-    }
+    Ok(text)
 }

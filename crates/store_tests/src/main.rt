@@ -85,7 +85,7 @@ fn run_generated(rt: &HostRuntime) -> io::Result<()> {
     let Some(table) = table_of(rt.alloc(), schema.as_slice(), settings.as_slice()) else {
         return println!(rt; "no table of g");
     };
-    let given = built::generated(rt.alloc(), &table, 100_000)?;
+    let given = built::generated(rt.alloc(), &table, "g", 100_000)?;
     println!(rt; "generated: {given}")
 }
 
