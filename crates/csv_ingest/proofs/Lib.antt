@@ -1,5 +1,6 @@
 mod BlockLemmas
 mod CountLemmas
+mod DigitLemmas
 mod HeaderLemmas
 mod HeaderLine
 mod LineBlocks

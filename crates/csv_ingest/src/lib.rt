@@ -2,6 +2,7 @@
 #![tactic(auto)]
 
 mod blocks;
+mod digits;
 mod first_line;
 mod header;
 mod laws;
