@@ -12,6 +12,13 @@ use Rattle.std.proofs.lemmas.Simd.{sum_fits}
 use Rattle.std.specs.List.{list_all}
 use Rattle.data_types.specs.Numbers.{is_digit, negative, place_value, range_of, ranged, spelled_number, unsigned_number, whole_of}
 use Rattle.data_types.specs.declared.kind.FieldKind.{FieldKind}
+use Rattle.data_types.specs.declared.kind.FieldKind.TheVariants.{Int, Long, Text}
+use Rattle.values.specs.Reading.{number_value, value_of}
+use Rattle.values.specs.declared.value.Value.TheVariants.{Whole}
+use Rattle.table_schema.specs.declared.field.Field.{Field}
+use Rattle.csv_row.specs.Columns.{is_text_kind}
+use Rattle.csv_row.specs.Row.{cell_value, value_in}
+use Rattle.csv_row.proofs.CellLemmas.{number_ok}
 use Rattle.csv_ingest.proofs.MarkedLines.{and-left}
 use Rattle.std.proofs.Math.Seq.{drop-cons}
 
@@ -234,3 +241,19 @@ whole-signed kind text start end false n z within is spells fits plus minus =
   where
     no-more : (k : ℕ) → k ≡ k + 0
     no-more k = omega arith
+
+-- such a number is the value of a field of numbers
+pub number-value : (field : Field) (cell : List ℕ) → (field.kind ≡ Text → ⊥) → (n : ℤ) → whole_of field.kind cell ≡ Ok n → (is_text_kind field.kind ≡ false) × (cell_value field cell ≡ Ok (Whole n))
+number-value field cell not_text n is = by field.kind refl
+  where
+    value-of : (kind : FieldKind) → value_of kind cell ≡ number_value (whole_of kind cell) → field.kind ≡ kind → (bytes : List ℕ) → cell ≡ bytes → cell_value field cell ≡ Ok (Whole n)
+    value-of kind as_number same [] none = let no : whole_of field.kind [] ≡ Ok n = ap (whole_of field.kind) (sym none) ∙ is in absurd cc
+    value-of kind as_number same (byte ∷ bytes) some =
+        ap (cell_value field) some
+        ∙ ap (value_in field.kind) (sym some)
+        ∙ ap (λ k. value_in k cell) same
+        ∙ number_ok kind cell n as_number (ap (λ k. whole_of k cell) (sym same) ∙ is)
+    by : (kind : FieldKind) → field.kind ≡ kind → (is_text_kind field.kind ≡ false) × (cell_value field cell ≡ Ok (Whole n))
+    by Int same = (ap is_text_kind same , value-of Int refl same cell refl)
+    by Long same = (ap is_text_kind same , value-of Long refl same cell refl)
+    by Text same = absurd (not_text same)

@@ -1,13 +1,15 @@
 //! The rows of a part of a text, column by column.
-ghost use Rattle.std.specs.Prelude.{◌≡◌, ◌<◌, ◌≤◌, ◌+◌, ◌*◌, ℕ, true, length, get_or, IfOk, IfSome, Ok};
-ghost use Rattle.csv_row.specs.Columns.{DefaultFits, OfSorts, is_text_kind};
+ghost use Rattle.std.specs.Prelude.{◌≡◌, ◌<◌, ◌≤◌, ◌+◌, ◌*◌, ℕ, true, false, length, get_or, IfOk, IfSome, Ok};
+ghost use Rattle.csv_row.specs.Columns.{DefaultFits, OfSorts, Pushes, is_text_kind};
 ghost use Rattle.csv_row.specs.Layouts.{IsLayout, header_of};
 ghost use Rattle.csv_row.specs.Row.{cell_value};
 ghost use Rattle.values.specs.Columns.{is_text};
-ghost use Rattle.csv_ingest.specs.Parts.{AddsPart, AddsValues, IsPart, ReadsPart, cell_at, field_value, line_cells};
+ghost use Rattle.values.specs.declared.value.Value.TheVariants as value;
+ghost use Rattle.csv_ingest.specs.Parts.{AddsPart, AddsValues, AreMarks, IsPart, ReadsPart, cell_at, field_value, line_cells};
 
 use crate::parts::Part;
 use csv_row::{Layout, push_value};
+use data_types::FieldKind;
 use std::alloc::AllocError;
 use table_schema::Field;
 use values::{Column, Value};
@@ -107,10 +109,46 @@ fn push_cells(
 {
     let mut place = at;
     'rows: for _i in 0..part.rows {
-        if !push_value(column, field, part.cell(place))? {
+        if !push_cell(part, field, place, column)? {
             return Ok(false);
         }
         place += part.step;
     }
     Ok(true)
+}
+
+// Adds the value of the cell after one of the places, if it has one.
+#[inline(always)]
+fn push_cell(
+    part: Part<'_>,
+    field: &Field,
+    place: usize,
+    column: &mut Column,
+) -> Result<bool, AllocError>
+    requires marks { AreMarks part.text.now part.places.now }
+    requires within { place + 1 < length part.places.now }
+    requires sort { column.old.are_texts ≡ is_text_kind field.now.kind }
+    requires default { DefaultFits field.now }
+    ensures { IfOk result (λ done. done ≡ true → Pushes (cell_value field.now
+        (cell_at part.entry.text.now part.entry.places.now place)) column.old column.new) }
+{
+    if let Some(number) = number_at(part, field, place) {
+        column.push_whole(number)?;
+        return Ok(true);
+    }
+    push_value(column, field, part.cell(place))
+}
+
+// The number in the cell after one of the places, if it is one of few digits in a field of numbers.
+#[inline(always)]
+fn number_at(part: Part<'_>, field: &Field, place: usize) -> Option<i64>
+    requires marks { AreMarks part.text.now part.places.now }
+    requires within { place + 1 < length part.places.now }
+    ensures { IfSome result (λ number. (is_text_kind field.now.kind ≡ false) × (cell_value field.now
+        (cell_at part.entry.text.now part.entry.places.now place) ≡ Ok (value.Whole number))) }
+{
+    match field.kind {
+        FieldKind::Text => None,
+        kind => part.whole(kind, place),
+    }
 }

@@ -1,9 +1,12 @@
 //! Lines of one shape, by the places of the separators of a text.
-ghost use Rattle.std.specs.Prelude.{◌≡◌, ◌<◌, ◌≤◌, ◌+◌, ◌-◌, ◌*◌, ◌⊎◌, ℕ, true, length, take, drop, get_or, IfSome};
+ghost use Rattle.std.specs.Prelude.{◌≡◌, ◌<◌, ◌≤◌, ◌+◌, ◌-◌, ◌*◌, ◌⊎◌, ℕ, true, length, take, drop, get_or, IfSome, Ok};
+ghost use Rattle.data_types.specs.Numbers.{whole_of};
 ghost use Rattle.csv_ingest.specs.Parts.{AreMarks, IsLineAt, IsPart, cell_at, mark_at};
 
+use crate::digits::whole_between;
 use crate::lines::is_blank;
 use crate::records::from_place;
+use data_types::FieldKind;
 
 /// Some lines at the start of a text that begins with a line's end.
 #[derive(Clone, Copy)]
@@ -58,6 +61,23 @@ impl<'a> Part<'a> {
         ensures { result.now ≡ cell_at self.entry.text.now self.entry.places.now i }
     {
         between(
+            self.text,
+            self.places[i] as usize + 1,
+            self.places[i + 1] as usize,
+        )
+    }
+
+    /// The whole number of a kind that is the cell after one of the places, if it is a `-` or none
+    /// and sixteen digits or fewer.
+    #[inline(always)]
+    pub fn whole(self, kind: FieldKind, i: usize) -> Option<i64>
+        requires marks { AreMarks self.text.now self.places.now }
+        requires within { i + 1 < length self.places.now }
+        ensures { IfSome result (λ number. whole_of kind
+            (cell_at self.entry.text.now self.entry.places.now i) ≡ Ok number) }
+    {
+        whole_between(
+            kind,
             self.text,
             self.places[i] as usize + 1,
             self.places[i + 1] as usize,

@@ -10,10 +10,10 @@ rows-preserved c =
     let field = c.args.field.now in
     let i = c.rows._i in
     let so_far = c.rows.invariant in
-    let p = c.in_ok-push_value.ensures c.if-not-branch.false in
+    let p = c.in_ok-push_cell.ensures c.if-not-branch.false in
     let cell : ℕ → List ℕ = λ k. cell_at part.text.now part.places.now k in
     record {
       place = omega (arith, so_far.place, line-more i part.step);
-      added = adds-more (λ r. cell_value field (cell (r * part.step + c.args.at))) i c.args.column.now c.rows.column c.push_value.new.column p.value so_far.added
-          (ap (λ k. cell_value field (cell k)) (sym so_far.place) ∙ ap (cell_value field) (sym c.cell.ensures) ∙ p.given_is) p.new_is;
+      added = adds-more (λ r. cell_value field (cell (r * part.step + c.args.at))) i c.args.column.now c.rows.column c.push_cell.new.column p.value so_far.added
+          (ap (λ k. cell_value field (cell k)) (sym so_far.place) ∙ p.given_is) p.new_is;
     }
