@@ -5,8 +5,6 @@ mod HeaderLemmas
 mod HeaderLine
 mod LineBlocks
 mod LineColumns
-mod LineLemmas
-mod LineRows
 mod MarkLemmas
 mod MarkedLines
 mod NumberLemmas

@@ -8,7 +8,7 @@ use Rattle.csv.specs.Machine.{next_record}
 use Rattle.csv.specs.Reading.{default_config, records_from, records_next}
 use Rattle.csv.specs.declared.parser.State.{State}
 use Rattle.csv.specs.declared.parser.State.TheVariants as st
-use Rattle.csv_ingest.specs.NumberLines.{EndsCell, IsStart}
+use Rattle.csv_ingest.specs.Lines.{EndsCell, IsStart}
 use Rattle.csv_ingest.specs.Parts.{AreMarks, IsLineAt, cell_at, cells_at, mark_at}
 use Rattle.csv_ingest.specs.Places.{is_separator, places}
 

@@ -255,6 +255,23 @@ no-lines fields header before text columns table counts is =
           ap (λ k. given k before) none ∙ after-none (given n before) ∙ ap₂ (λ rows from. after rows (given n from)) (sym (no-rows columns counts)) same;
     })
 
+-- the first part
+pub lines-first : (fields : List Field) (header : List (List ℕ)) (before : ℕ) (text : List ℕ) (old new : List Listed) (rows len : ℕ) (table : ListedColumns) → ReadsPart fields header text old new rows len → All (Counts 0) old → before + rows ≤ most_rows (length fields)
+    → table ≡ record { columns = new; count = rows } → AreLines fields header before text table len
+lines-first fields header before text old new rows len table r counts room is =
+    let given : ℕ → RowsOrFault = λ n. rows_from before fields header (records_from default_config n st.StartRecord text) in
+    subst (λ t. AreLines fields header before text t len) (sym is)
+    (record {
+      within = r.within;
+      at_end = λ _. r.at_end;
+      each = λ n.
+          let rows_so : 0 + rows ≡ rows = omega arith in
+          after-none (given (n + rows))
+          ∙ ap (λ first. after first (given (n + rows))) (sym (no-rows old counts))
+          ∙ r.each 0 before n counts room
+          ∙ ap (λ k. after (rows_in_columns k new) (rows_from (before + rows) fields header (records_from default_config n st.StartRecord (drop len text)))) rows_so;
+    })
+
 -- a part more
 pub lines-more : (fields : List Field) (header : List (List ℕ)) (text : List ℕ) (old new : List Listed) (c taken rows len : ℕ) → AreLines fields header 0 text (record { columns = old; count = c }) taken
     → ReadsPart fields header (drop taken text) old new rows len → All (Counts c) old → c + rows ≤ most_rows (length fields) → AreLines fields header 0 text (record { columns = new; count = c + rows }) (taken + len)

@@ -2,7 +2,6 @@ pub mod Blocks
 pub mod Lines
 pub mod Names
 pub mod NumberBlocks
-pub mod NumberLines
 pub mod Parts
 pub mod Places
 pub mod Reading

@@ -2,6 +2,7 @@
 use Rattle.std.specs.Prelude.{◌≡◌, ◌<◌, ◌≤◌, ◌+◌, ◌∷◌, ◌⊎◌, ℕ, List, Bool, false, not, nat_lt, ◌==◌, ◌&&◌, length, take, drop, true, get_or}
 use Rattle.std.specs.List.{list_all}
 use Rattle.csv.specs.Reading.{default_config, records_from}
+use Rattle.csv.specs.declared.parser.State.{State}
 use Rattle.csv.specs.declared.parser.State.TheVariants as st
 use Rattle.values.specs.Columns.{ListedColumns, rows_of}
 use Rattle.table_schema.specs.declared.field.Field.{Field}
@@ -16,6 +17,14 @@ StartsCell text = ((get_or text 0 0 == 10) ≡ false) × ((get_or text 0 0 == 13
 -- the text starts with the end of a line
 abbrev pub AtLineEnd : List ℕ → Type 0
 AtLineEnd text = (rest : List ℕ) × (text ≡ 10 ∷ rest)
+
+-- a comma, a line feed or a carriage return
+abbrev pub EndsCell : ℕ → Type 0
+EndsCell byte = (byte ≡ 44) ⊎ (byte ≡ 10) ⊎ (byte ≡ 13)
+
+-- a field of this text starts in the state
+abbrev pub IsStart : List ℕ → State → Type 0
+IsStart text s = ((s ≡ st.StartRecord) × StartsCell text) ⊎ (s ≡ st.StartField)
 
 -- whether a byte of a header stands for itself or is a comma, and is ASCII
 abbrev pub is_bare : ℕ → Bool

@@ -16,7 +16,7 @@ ghost use Rattle.csv_ingest.specs.Rows.{header_of, number_rows_in, records_of, r
 
 use crate::first_line::{header_end, header_line};
 use crate::header::{names_in, number_columns};
-use crate::number_lines::{Lines, read_lines};
+use crate::lines::{Lines, read_lines};
 use crate::records::{from_place, next_record, text_reader, unmarked, unmarked_len};
 use crate::rows::{Block, read_block};
 use csv::{ByteRecord, Reader};

@@ -9,7 +9,6 @@ mod laws;
 mod limits;
 mod lines;
 mod marks;
-mod number_lines;
 mod numbers;
 mod part_columns;
 mod parts;

@@ -11,9 +11,10 @@ use crate::marks::push_separators;
 use crate::part_columns::push_part;
 use crate::parts::part_of;
 use crate::records::from_place;
+use crate::rows::empty_columns;
 use csv_row::Layout;
 use std::alloc::{AllocError, Global};
-use values::Column;
+use values::{Column, Columns};
 
 // So many bytes are looked at together, and those after them up to the end of a line, if there are
 // no more than so many.
@@ -63,6 +64,44 @@ pub fn push_lines(
         bytes += part.len();
     }
     Ok(Some(Taken { rows, bytes }))
+}
+
+/// Some rows of a text, and how many of its bytes they are.
+#[derive(Drop)]
+pub struct Lines {
+    pub columns: Columns,
+    pub taken: usize,
+}
+
+/// The rows of the plain lines at the start of a text, after `before` others: those of its next
+/// part, and at most as many as there is room for.
+pub fn read_lines(
+    alloc: Global,
+    text: &[u8],
+    layout: &Layout,
+    before: usize,
+    room: usize,
+) -> Result<Lines, AllocError>
+    requires { IsLayout layout.now }
+    ensures { IfOk result (λ l. ReadsLines layout.now.fields.now (header_of layout.now) before room
+        text.now l.columns l.taken) }
+{
+    let room = (layout.most as usize).saturating_sub(before).min(room);
+    let mut places = Vec::with_capacity(alloc, PART_PLACES)?;
+    mark_part(text, &mut places)?;
+    if let Some(part) = part_of(text, &places, layout.names.len(), room) {
+        let mut columns = empty_columns(alloc, layout.fields, part.rows)?;
+        if push_part(part, layout, &mut columns)? {
+            let columns = Columns::new(columns, part.rows);
+            return Ok(Lines {
+                columns,
+                taken: part.len(),
+            });
+        }
+    }
+    let columns = empty_columns(alloc, layout.fields, 0)?;
+    let columns = Columns::new(columns, 0);
+    Ok(Lines { columns, taken: 0 })
 }
 
 /// The places of the separators in the next part of a text.

@@ -1,6 +1,6 @@
 use Rattle.csv_ingest.proofs.DigitLemmas.{whole-signed}
 use Rattle.csv_ingest.proofs.digits.whole_between.Goals as goal
-use Rattle.std.proofs.Common.{◌∙◌, Ok, ap, sym, w64, arith}
+use Rattle.std.proofs.Common.{◌∙◌, Ok, ap, sym, w64}
 use Rattle.std.proofs.lemmas.Int.{to_z-of_z}
 
 pub returns : goal.returns
