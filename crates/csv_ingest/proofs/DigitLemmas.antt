@@ -253,7 +253,8 @@ number-value field cell not_text n is = by field.kind refl
         ∙ ap (value_in field.kind) (sym some)
         ∙ ap (λ k. value_in k cell) same
         ∙ number_ok kind cell n as_number (ap (λ k. whole_of k cell) (sym same) ∙ is)
+
     by : (kind : FieldKind) → field.kind ≡ kind → (is_text_kind field.kind ≡ false) × (cell_value field cell ≡ Ok (Whole n))
-    by Int same = (ap is_text_kind same , value-of Int refl same cell refl)
-    by Long same = (ap is_text_kind same , value-of Long refl same cell refl)
+    by Int same = (ap is_text_kind same, value-of Int refl same cell refl)
+    by Long same = (ap is_text_kind same, value-of Long refl same cell refl)
     by Text same = absurd (not_text same)
