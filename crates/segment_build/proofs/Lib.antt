@@ -10,6 +10,4 @@ pub mod SectionLemmas
 pub mod TreeMerging
 pub mod Sizes
 pub mod Built
-pub mod FilesLemmas
 pub mod Growing
-pub mod PieceLemmas

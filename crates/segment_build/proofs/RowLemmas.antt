@@ -47,7 +47,7 @@ value_more old columns new row at c c' v suits is lt c_is v_is pushes sets =
 
 -- ---- all rows
 
-kind_suits : (k : FieldKind) (v : Value) → fits k v ≡ true → is_of k (Text []) ≡ is_text v
+pub kind_suits : (k : FieldKind) (v : Value) → fits k v ≡ true → is_of k (Text []) ≡ is_text v
 kind_suits kind.Int (Whole z) e = refl
 kind_suits kind.Int (Text t) e = absurd cc
 kind_suits kind.Long (Whole z) e = refl

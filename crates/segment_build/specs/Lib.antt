@@ -5,3 +5,8 @@ pub mod Numbers
 pub mod RowColumns
 pub mod Growing
 pub mod Publishing
+pub mod Compared
+pub mod ComparedLaws
+pub mod FileLaws
+pub mod PieceLaws
+pub mod Made

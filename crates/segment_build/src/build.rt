@@ -9,12 +9,13 @@ ghost use Rattle.segment_file.specs.Ordered.{ordered};
 ghost use Rattle.segment_build.specs.Arranging.{Orders};
 ghost use Rattle.segment_build.specs.Fitting.{AreOfTable};
 ghost use Rattle.segment_build.specs.Growing.{IsBuilt};
+ghost use Rattle.segment_build.specs.Made.{file_bytes};
 
-use crate::file::{MadeFile, front_of, push_all};
+use crate::file::{front_of, push_all};
 use crate::order::row_order;
 use crate::sections::column_sections;
 use crate::trees::grow_trees;
-use crate::{BuildFault, RowOrder, columns_of};
+use crate::{BuildFault, MadeFile, RowOrder, columns_of};
 use outside::{Bytes, Seq};
 use std::alloc::Global;
 use table_schema::Table;
@@ -52,7 +53,7 @@ pub fn build_columns(
 /// The rows are put in the stable order of the sorted column, where there is one. One column after
 /// the other is taken, and its dictionary and ids are let go before the next; then one star-tree
 /// after the other is built. There is no file where a tree takes more bytes than one may.
-pub(crate) fn make_file(
+pub fn make_file(
     alloc: Global,
     table: &Table,
     name: &str,
@@ -62,7 +63,7 @@ pub(crate) fn make_file(
     requires name { IsSegmentName name.now }
     requires width { length columns.now.columns ≡ length table.now.schema.fields }
     requires rows { AreRows table.now.schema.fields (rows_of columns.now) }
-    ensures image { IfOk result (λ made. made.front.items ++ concat made.sections.items
+    ensures image { IfOk result (λ made. file_bytes made
         ≡ image 1 table.now name.now (rows_of columns.now)) }
     ensures built { IsBuilt table.now (rows_of columns.now) result }
 {

@@ -1,4 +1,4 @@
-//! Why a segment is not built.
+//! Why a segment is not built, and why bytes are not those of a file.
 
 use std::alloc::AllocError;
 
@@ -21,4 +21,14 @@ impl From<AllocError> for BuildFault {
     fn from(_: AllocError) -> Self {
         BuildFault::NoMemory
     }
+}
+
+/// Why bytes are not found in a file.
+#[derive(Clone, Copy, Debug, PartialEq, Eq)]
+pub enum CompareFault {
+    /// A byte is another there, or the file ends before it.
+    Differs,
+    /// The shelf failed, and its count of faults rose.
+    Failed,
+    NoMemory,
 }

@@ -11,13 +11,6 @@ use segment_file::{Front, sections_of};
 use std::alloc::Global;
 use table_schema::Table;
 
-/// A segment's file as it is made: its front, and its sections in their order.
-#[derive(Drop)]
-pub(crate) struct MadeFile {
-    pub front: Vec<u8>,
-    pub sections: Vec<Bytes>,
-}
-
 /// The front of the file of these sections.
 pub(crate) fn front_of(
     alloc: Global,

@@ -1,19 +1,19 @@
 //! A segment's file is published.
-ghost use Rattle.std.specs.Prelude.{◌≡◌, ◌++◌, ℕ, length, IfErr, OnOk, OnErr, IsErrOf};
-ghost use Rattle.std.specs.List.{concat};
+ghost use Rattle.std.specs.Prelude.{◌≡◌, ℕ, length, IfErr, OnOk, OnErr, IsErrOf};
 ghost use Rattle.outside.specs.Files.{with_file, without_file};
 ghost use Rattle.outside.specs.Seen.{OnlyWrites, seen};
 ghost use Rattle.table_schema.specs.ValidTable.{AreRows, IsValidTable};
 ghost use Rattle.values.specs.Columns.{rows_of};
 ghost use Rattle.segment_file.specs.Image.{image};
 ghost use Rattle.segment_file.specs.Names.{IsSegmentName, file_of};
+ghost use Rattle.segment_build.specs.Made.{file_bytes};
 ghost use Rattle.segment_build.specs.Publishing.{incoming};
 ghost use Rattle.segment_build.specs.Growing.{IsTooLarge, TreesFit};
 
 use crate::build::make_file;
-use crate::file::MadeFile;
-use crate::pieces::{append_bytes, append_made};
-use crate::{BuildFault, columns_of};
+use crate::pieces::Appending;
+use crate::taking::give_bytes;
+use crate::{BuildFault, MadeFile, columns_of};
 use outside::{Depot, DepotFault};
 use segment_file::segment_file_name;
 use std::alloc::Global;
@@ -99,7 +99,7 @@ pub fn publish_file<D: Depot>(
     ensures never_missing { ¬ IsErrOf result DepotFault.Missing }
 {
     depot.begin(alloc, INCOMING)?;
-    append_bytes(alloc, depot, bytes)?;
+    give_bytes(alloc, &mut Appending, depot, bytes)?;
     depot.publish(alloc, INCOMING, name)
 }
 
@@ -111,7 +111,7 @@ fn publish_made<D: Depot>(
     made: MadeFile,
 ) -> Result<(), DepotFault>
     ensures published { OnOk result (D.held depot.new ≡ with_file name.now
-        (made.front.items ++ concat made.sections.items) (D.held depot.old)) }
+        (file_bytes made) (D.held depot.old)) }
     ensures kept { OnErr result (D.held depot.new ≡ D.held depot.old) }
     ensures gone { OnOk result (D.parts depot.new ≡ without_file incoming (D.parts depot.old)) }
     ensures only_writes { OnlyWrites (IsErrOf result DepotFault.Failed) incoming
@@ -119,6 +119,6 @@ fn publish_made<D: Depot>(
     ensures never_missing { ¬ IsErrOf result DepotFault.Missing }
 {
     depot.begin(alloc, INCOMING)?;
-    append_made(alloc, depot, made)?;
+    made.give(alloc, &mut Appending, depot)?;
     depot.publish(alloc, INCOMING, name)
 }

@@ -77,13 +77,13 @@ values_back all (v ∷ vs) d each =
     (λ i. here i ∷ more i)
 
 -- the values of a column, by its ids
-column_back : (rows : List (List Value)) (column : ℕ) (d : Value) → map (λ id. get_or (distinct (values_in column rows)) id d) (ids_of rows column) ≡ values_in column rows
+pub column_back : (rows : List (List Value)) (column : ℕ) (d : Value) → map (λ id. get_or (distinct (values_in column rows)) id d) (ids_of rows column) ≡ values_in column rows
 column_back rows column d =
     let vs : List Value = values_in column rows in
     values_back (distinct vs) vs d (members_all (λ v. is_member (distinct vs) v ≡ true) vs vs (λ v is. is) (λ v is. distinct_members v vs ∙ is))
 
 -- ids are read back from their section
-ids_back : (rows : List (List Value)) (column : ℕ) → length rows ≤ 1048576 → ids_between (width_of (count_of rows column)) 0 (length rows) (spelled (width_of (count_of rows column)) (ids_of rows column)) ≡ ids_of rows column
+pub ids_back : (rows : List (List Value)) (column : ℕ) → length rows ≤ 1048576 → ids_between (width_of (count_of rows column)) 0 (length rows) (spelled (width_of (count_of rows column)) (ids_of rows column)) ≡ ids_of rows column
 ids_back rows column at_most =
     let count : ℕ = count_of rows column in
     let width : ℕ = width_of count in
@@ -95,7 +95,7 @@ ids_back rows column at_most =
 
 -- ---- rows
 
-row_tells : (r s : List Value) → length r ≡ length s → ((c : ℕ) → c < length r → value_in c r ≡ value_in c s) → r ≡ s
+pub row_tells : (r s : List Value) → length r ≡ length s → ((c : ℕ) → c < length r → value_in c r ≡ value_in c s) → r ≡ s
 row_tells [] [] long each = refl
 row_tells [] (b ∷ s) long each = absurd (omega arith)
 row_tells (a ∷ r) [] long each = absurd (omega arith)
@@ -104,7 +104,7 @@ row_tells (a ∷ r) (b ∷ s) long each =
     let more : r ≡ s = row_tells r s (omega arith) (λ c lt. each (suc c) (omega arith)) in
     (λ i. here i ∷ more i)
 
-row_length : (fields : List Field) (row : List Value) → is_row fields row ≡ true → length row ≡ length fields
+pub row_length : (fields : List Field) (row : List Value) → is_row fields row ≡ true → length row ≡ length fields
 row_length [] [] is = refl
 row_length [] (v ∷ vs) is = absurd (false≢true is)
 row_length (f ∷ fs) [] is = absurd (false≢true is)

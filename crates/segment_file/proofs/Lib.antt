@@ -14,3 +14,5 @@ pub mod ImageTells
 pub mod TreeChecks
 pub mod Loops
 pub mod WholeNumbers
+pub mod Forwards
+pub mod ImageSpells

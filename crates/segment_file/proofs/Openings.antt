@@ -1,5 +1,6 @@
 -- The front of a file and the rest of its head, as they are read.
-use Rattle.std.proofs.Common.{◌≡◌, ◌∙◌, ◌≤◌, ◌<◌, ◌+◌, ℕ, List, ◌++◌, length, take, drop, sum, Option, Some, None, IfSome, refl, leb-true, sym, ap, ap₂, subst, arith}
+use Rattle.std.proofs.Common.{◌≡◌, ◌∙◌, ◌≤◌, ◌<◌, ◌+◌, ℕ, ◌-◌, List, ◌++◌, length, take, drop, replicate, sum, Option, Some, None, IfSome, refl, leb-true, append_assoc, sym, ap, ap₂, subst, arith}
+use Rattle.std.proofs.lemmas.List.{length-append, length-replicate, take_at}
 use Rattle.std.proofs.Math.Seq.{take-add}
 use Rattle.std.proofs.lemmas.List.Sums.{sum_by-take-le}
 use Rattle.outside.specs.Files.{Files, bytes_at, bytes_of}
@@ -9,7 +10,7 @@ use Rattle.segment_file.specs.Front.{Front, front_size, head_end}
 use Rattle.segment_file.specs.Rules.{HasFront, IsFront}
 use Rattle.segment_file.specs.Names.{IsSegmentName}
 use Rattle.segment_file.specs.Parts.{head_sections}
-use Rattle.segment_file.specs.Reading.{IsFrontOf}
+use Rattle.segment_file.specs.Reading.{IsFrontOf, IsHeadCut}
 use Rattle.segment_file.proofs.Counts.{head_count, some_sections}
 use Rattle.segment_file.proofs.Fronts.{front_bytes_size}
 
@@ -40,6 +41,24 @@ head_bytes table name file bytes (Some files) front start rest more all is start
     both
     ∙ ap₂ ◌++◌ is.told.1 (read ∙ (λ i. take (sizes i) (drop (starts i) whole)))
     ∙ sym (take-add (front_size table name) (sum (take (length (head_sections table)) front.sizes)) whole)
+
+-- whatever a device tells, these are the bytes of a head: the rest of its file may be any
+pub head_cut : (table : Table) (name file bytes : List ℕ) (held : Option Files) (front : Front) (rest : ℕ) (more all : List ℕ) → IsFrontOf table name file held bytes front
+    → rest ≡ sum (take (length (head_sections table)) front.sizes) → length more ≡ rest → all ≡ bytes ++ more → IsHeadCut table name front all
+head_cut table name file bytes held front rest more all is sizes long both =
+    let own = is.front_is in
+    let start : length bytes ≡ front_size table name = front_length table name bytes is.size front own in
+    let end : length all ≡ head_end table name front = ap length both ∙ length-append bytes more ∙ (λ i. start i + (long ∙ sizes) i) in
+    let zeros : List ℕ = replicate (is.size - length all) 0 in
+    let within : head_end table name front ≤ is.size = head_within table name bytes is.size front own in
+    let whole : length (all ++ zeros) ≡ is.size = omega (arith, length-append all zeros, length-replicate {A = ℕ} (is.size - length all) 0, end, within) in
+    let begins : take (front_size table name) (all ++ zeros) ≡ bytes =
+    ap (λ l. take (front_size table name) (l ++ zeros)) both ∙ ap (take (front_size table name)) (append_assoc bytes more zeros) ∙ take_at bytes (more ++ zeros) (front_size table name) start in
+    record {
+      whole = all ++ zeros;
+      front_is = subst (λ n. IsFront table name (take (front_size table name) (all ++ zeros)) n front) (sym whole) (subst (λ b. IsFront table name b is.size front) (sym begins) own);
+      cut_is = sym (take_at all zeros (head_end table name front) end);
+    }
 
 -- ---- the log
 

@@ -22,7 +22,7 @@ fronts_one table name bytes f g hf hg =
     let front : List ℕ = take (front_size table name) bytes in
     is_said table name front (length bytes) g hg ∙ sym (is_said table name front (length bytes) f hf)
 
-spelled_one : (table : Table) (rows : ℕ) (heads : List (List ℕ)) (columns : List ℕ) (ds es : List Distinct) → AreSpelled table rows heads columns ds → AreSpelled table rows heads columns es → es ≡ ds
+pub spelled_one : (table : Table) (rows : ℕ) (heads : List (List ℕ)) (columns : List ℕ) (ds es : List Distinct) → AreSpelled table rows heads columns ds → AreSpelled table rows heads columns es → es ≡ ds
 spelled_one table rows heads [] [] [] a b = refl
 spelled_one table rows heads [] [] (e ∷ es) a b = absurd b
 spelled_one table rows heads [] (d ∷ ds) es a b = absurd a

@@ -1,5 +1,9 @@
 -- Laws of the rules of heads, and of images.
 use Rattle.std.specs.Prelude.{◌≡◌, ◌<◌, ◌^◌, ℕ, List, map}
+use Rattle.std.specs.List.{All}
+use Rattle.value_ids.specs.Dictionary.{Distinct}
+use Rattle.segment_file.specs.Front.{Front}
+use Rattle.segment_file.specs.Spelled.{HasIds, rows_said}
 use Rattle.values.specs.declared.value.Value.{Value}
 use Rattle.table_schema.specs.declared.table.Table.{Table}
 use Rattle.table_schema.specs.ValidTable.{IsValidTable}
@@ -33,3 +37,13 @@ ImagesTell =
     → format < 2 ^ 32 → other < 2 ^ 32
     → image format table name rows ≡ image other table name others → (format ≡ other)
     × (ordered table.settings.sorted rows ≡ ordered table.settings.sorted others)
+
+-- the image of rows has an id for each row in each column, and spells these rows in their order
+abbrev pub ImageSpells : Type 0
+ImageSpells =
+    (table : Table) (name : List ℕ) (rows : List (List Value)) (front : Front)
+    (dictionaries : List Distinct) → IsValidTable table → IsSegmentName name → CanHold table rows
+    → KeepsAll table name (image 1 table name rows) front dictionaries
+    → All (HasIds table name (image 1 table name rows) front dictionaries) (columns_of table)
+    × (rows_said table name (image 1 table name rows) front dictionaries
+    ≡ ordered table.settings.sorted rows)

@@ -9,4 +9,5 @@ pub mod Image
 pub mod Rules
 pub mod Reading
 pub mod Faults
+pub mod Spelled
 pub mod Laws

@@ -10,9 +10,9 @@ use Rattle.segment_file.specs.declared.part.Part.{Part}
 use Rattle.segment_file.specs.declared.part.Part.TheVariants as parts
 use Rattle.segment_file.specs.declared.section.Section.{Section}
 use Rattle.segment_file.specs.declared.trees.TreeNodes.{TreeNodes}
-use Rattle.segment_file.specs.Front.{Front, front_size}
+use Rattle.segment_file.specs.Front.{Front, front_size, head_end}
 use Rattle.segment_file.specs.Parts.{columns_of, trees_of}
-use Rattle.segment_file.specs.Rules.{AreSpelled, IsFront, size_in, nodes_in}
+use Rattle.segment_file.specs.Rules.{AreSpelled, HasFront, IsFront, size_in, nodes_in}
 use Rattle.star_file.specs.Rules as nodes
 use Rattle.star_file.specs.Rules.{number_at}
 
@@ -41,6 +41,12 @@ pub record IsFrontOf (table : Table) (name file : List ℕ) (held : Option Files
   pub front_is : IsFront table name bytes size front
   pub told : IfSome held (λ files. (size ≡ length (bytes_of (Some files) file))
       × (bytes ≡ take (front_size table name) (bytes_of (Some files) file)))
+
+-- the bytes are those up to the end of the head of some file with this front
+pub record IsHeadCut (table : Table) (name : List ℕ) (front : Front) (cut : List ℕ) : Type 0 where
+  pub whole : List ℕ
+  pub front_is : HasFront table name whole front
+  pub cut_is : cut ≡ take (head_end table name front) whole
 
 -- ---- the sections of a head
 

@@ -1,5 +1,5 @@
 //! Laws of the rules of heads, and of images. Each is the contract of a function that does nothing.
-ghost use Rattle.segment_file.specs.Laws.{FailsNotAll, ImageKeeps, ImagesTell};
+ghost use Rattle.segment_file.specs.Laws.{FailsNotAll, ImageKeeps, ImageSpells, ImagesTell};
 
 /// Where the rule of some part is the first that fails, not all rules hold.
 pub fn head_rules_law()
@@ -15,4 +15,9 @@ pub fn image_keeps_law()
 /// order.
 pub fn images_tell_law()
     ensures { ImagesTell }
+{}
+
+/// The image of rows spells these rows in their order.
+pub fn image_spells_law()
+    ensures { ImageSpells }
 {}

@@ -18,7 +18,7 @@ mod trees;
 pub use bounds::{Ends, push_ends};
 pub use fault::HeadFault;
 pub use front::{Front, front_size};
-pub use laws::{head_rules_law, image_keeps_law, images_tell_law};
+pub use laws::{head_rules_law, image_keeps_law, image_spells_law, images_tell_law};
 pub use name::{is_segment_name, segment_file_name};
 pub use numbers::four_at;
 pub use opening::{FrontRead, read_front, read_rest};

@@ -8,7 +8,7 @@ ghost use Rattle.segment_file.specs.Front as spec;
 ghost use Rattle.segment_file.specs.Front.{front_size, head_end};
 ghost use Rattle.segment_file.specs.Names.{IsSegmentName};
 ghost use Rattle.segment_file.specs.Parts.{sections_of};
-ghost use Rattle.segment_file.specs.Reading.{IsFrontOf};
+ghost use Rattle.segment_file.specs.Reading.{IsFrontOf, IsHeadCut};
 ghost use Rattle.segment_file.specs.Rules.{HasFront};
 ghost use Rattle.segment_file.specs.declared.fault.HeadFault.TheVariants.{NotASegment};
 ghost use Rattle.segment_file.specs.declared.part.Part.{Part};
@@ -80,6 +80,8 @@ pub fn read_rest<S: Shelf>(
     ensures bytes { IfOk result (λ bytes. IfSome (S.held shelf.old) (λ files.
         bytes.items ≡ take (head_end table.now name.now read.now.front)
         (bytes_of (Some files) file.now))) }
+    ensures cut { IfOk result (λ bytes.
+        IsHeadCut table.now name.now read.now.front bytes.items) }
     ensures refused { IfErr result (λ fault. (p : Part) → fault ≡ NotASegment p →
         S.held shelf.old ≡ None) }
     ensures only_reads { OnlyReads (IsErrOf result HeadFault.ReadFault)

@@ -4,7 +4,7 @@ use Rattle.segment_file.specs.Image.{image}
 use Rattle.segment_file.specs.Names.{file_of}
 use Rattle.segment_build.specs.Growing.{IsTooLarge}
 use Rattle.segment_build.specs.declared.fault.BuildFault.TheVariants.{TooLarge}
-use Rattle.segment_build.proofs.FilesLemmas.{on_ok_then}
+use Rattle.segment_build.specs.FileLaws.{on_ok_then}
 use Rattle.segment_build.proofs.publish.write_segment.Goals as goal
 
 pub returns-clause-published : goal.returns-clause-published

@@ -2,8 +2,9 @@ use Rattle.std.proofs.Common.{◌≡◌, ◌∙◌, ◌+◌, ◌++◌, IfSome, N
 use Rattle.outside.specs.Files.{bytes_of}
 use Rattle.outside.specs.Seen.{seen}
 use Rattle.segment_file.specs.Front.{front_size, head_end}
+use Rattle.segment_file.specs.Reading.{IsHeadCut}
 use Rattle.segment_file.proofs.Faults.{growth_bad, growth_ok, growth_reads, reads_ended, reads_handed, reads_well}
-use Rattle.segment_file.proofs.Openings.{front_length, has_heads, head_bytes, head_within, rest_short, rest_through, rest_up}
+use Rattle.segment_file.proofs.Openings.{front_length, has_heads, head_bytes, head_cut, head_within, rest_short, rest_through, rest_up}
 use Rattle.segment_file.proofs.opening.read_rest.Goals as goal
 
 pub head_size-rest-requires-clause-some : goal.head_size-rest-requires-clause-some
@@ -36,6 +37,7 @@ returns-in-Err g c =
     let end : c.len-start.result + c.head_size-rest.result ≡ head_end table name read.front = (λ i. start i + c.head_size-rest.ensures i) in
     record {
       bytes = tt;
+      cut = tt;
       refused = λ p is_p. rest_short table name file read.bytes.items held read.front c.len-start.result c.head_size-rest.result is end (c.in-Err.ensures.short p is_p).1;
       only_reads = reads_handed c.in-Err.fault old new c.in-Err.ensures.only_reads;
       log = rest_up file c.len-start.result c.head_size-rest.result (front_size table name) (head_end table name read.front) old.log new.log start end c.in-Err.ensures.log_of_fault;
@@ -56,6 +58,7 @@ returns-in_err-joined g c =
     let r = c.from_residual in
     record {
       bytes = growth_ok (λ bytes. IfSome held (λ files. bytes.items ≡ take (head_end table name read.front) (bytes_of (Some files) file))) r.result r.ensures;
+      cut = growth_ok (λ bytes. IsHeadCut table name read.front bytes.items) r.result r.ensures;
       refused = growth_bad (λ p. held ≡ None) r.result r.ensures;
       only_reads = growth_reads r.result old new r.ensures (reads_well c.in-Ok.more old new c.in-Ok.ensures.only_reads);
       log = rest_through file c.len-start.result c.head_size-rest.result (front_size table name) (head_end table name read.front) old.log new.log start end c.in-Ok.ensures.log;
@@ -77,6 +80,7 @@ returns g c =
     let both : all.items ≡ read.bytes.items ++ c.in-Ok.more = c.in_ok-joined.ensures ∙ ap₂ ◌++◌ c.deref.ensures.value c.as_slice.ensures in
     record {
       bytes = head_bytes table name file read.bytes.items held read.front c.len-start.result c.head_size-rest.result c.in-Ok.more all.items is start c.head_size-rest.ensures c.in-Ok.ensures.bytes both;
+      cut = head_cut table name file read.bytes.items held read.front c.head_size-rest.result c.in-Ok.more all.items is c.head_size-rest.ensures c.in-Ok.ensures.size both;
       refused = tt;
       only_reads = reads_ended all old new (reads_well c.in-Ok.more old new c.in-Ok.ensures.only_reads);
       log = rest_through file c.len-start.result c.head_size-rest.result (front_size table name) (head_end table name read.front) old.log new.log start end c.in-Ok.ensures.log;

@@ -8,7 +8,7 @@ use Rattle.outside.specs.Files.{Files, SameBut, bytes_of, name_order, with_file}
 use Rattle.std.specs.FinMap as map
 use Rattle.std.specs.Ordering.{eq_by_cmp}
 use Rattle.std.proofs.lemmas.Cmp.{nat_list_cmp_total}
-use Rattle.segment_build.proofs.FilesLemmas.{again, get_put, on_ok_then, same_but, same_but_new, same_but_then, same_name}
+use Rattle.segment_build.specs.FileLaws.{again, get_put, on_ok_then, same_but, same_but_new, same_but_then, same_name}
 
 -- what is put twice under a name is what was put last
 put_twice : (told : Option Files) (name some all : List ℕ) → with_file name all (with_file name some told) ≡ with_file name all told
@@ -39,24 +39,6 @@ pub record IsGrowing (part left all : List ℕ) (old now : Seen) : Type 0 where
   pub reads : now.read_faults ≡ old.read_faults
   pub writes : now.write_faults ≡ old.write_faults
 
--- before the first piece
-pub grows_first : (part all : List ℕ) (old : Seen) → IsGrowing part all all old old
-grows_first part all old = record { comes = refl; same = same_but part old.parts; held = refl; log = refl; reads = refl; writes = refl }
-
--- after one more
-pub grows_more : (part piece rest all : List ℕ) (old mid now : Seen) → IsGrowing part (piece ++ rest) all old mid
-    → AppendsToPart part piece (Ok tt) mid now → IsGrowing part rest all old now
-grows_more part piece rest all old mid now is a =
-    record {
-      comes = ap (λ p. with_file part (bytes_of p part ++ rest) p) a.appended ∙ put_more mid.parts part (bytes_of mid.parts part ++ piece) rest
-          ∙ ap (λ b. with_file part b mid.parts) (append_assoc (bytes_of mid.parts part) piece rest) ∙ is.comes;
-      same = same_but_then part old.parts mid.parts now.parts is.same (same_but_new part (bytes_of mid.parts part ++ piece) mid.parts now.parts a.appended);
-      held = a.held ∙ is.held;
-      log = a.writes.log ∙ is.log;
-      reads = a.writes.reads ∙ is.reads;
-      writes = a.writes.unchanged (λ e. cc) ∙ is.writes;
-    }
-
 -- what follows where a call failed
 on_err_then : {A E P Q : Type 0} (r : Result A E) → (P → Q) → OnErr r P → OnErr r Q
 on_err_then (Ok x) f p = tt
@@ -84,17 +66,6 @@ grows_last r part left all old mid new is a =
       never_missing = a.never_missing;
     }
 
--- where a piece fails, all fails
-pub grows_failed : (fault : DepotFault) (part piece left all : List ℕ) (old mid new : Seen) → IsGrowing part left all old mid → AppendsToPart part piece (Err fault) mid new → AppendsToPart part all (Err fault) old new
-grows_failed fault part piece left all old mid new is a =
-    record {
-      appended = tt;
-      unknown = same_but_then part old.parts mid.parts new.parts is.same a.unknown;
-      held = a.held ∙ is.held;
-      writes = writes_then (Err fault) part left all old mid new is a.writes;
-      never_missing = a.never_missing;
-    }
-
 -- a depot whose part has grown by these bytes
 pub record HasGrown (part some : List ℕ) (old now : Seen) : Type 0 where
   pub grown : now.parts ≡ with_file part (bytes_of old.parts part ++ some) old.parts
@@ -119,26 +90,10 @@ grown_by part some more old mid has =
       writes = has.writes;
     }
 
-pub grown_more : (part some more : List ℕ) (old mid now : Seen) → HasGrown part some old mid → AppendsToPart part more (Ok tt) mid now → HasGrown part (some ++ more) old now
-grown_more part some more old mid now has a = has_grown part (some ++ more) old now (grows_last (Ok tt) part more (some ++ more) old mid now (grown_by part some more old mid has) a)
+-- bytes that are added after others are added with them
+pub appends_joined : (part a b : List ℕ) (r : Result (Unit {0}) DepotFault) (s t u : Seen) → AppendsToPart part a (Ok tt) s t → AppendsToPart part b r t u → AppendsToPart part (a ++ b) r s u
+appends_joined part a b r s t u first then = grows_last r part b (a ++ b) s t u (grown_by part a b s t (has_grown part a s t first)) then
 
-pub grown_failed : (fault : DepotFault) (part some more all : List ℕ) (old mid now : Seen) → HasGrown part some old mid → AppendsToPart part more (Err fault) mid now → AppendsToPart part all (Err fault) old now
-grown_failed fault part some more all old mid now has a =
-    let a_more = grows_failed fault part more more (some ++ more) old mid now (grown_by part some more old mid has) a in
-    record { appended = tt; unknown = a_more.unknown; held = a_more.held; writes = a_more.writes; never_missing = a_more.never_missing }
-
-pub grown_all : (part all : List ℕ) (old now : Seen) → HasGrown part all old now → AppendsToPart part all (Ok tt) old now
-grown_all part all old now has =
-    record {
-      appended = has.grown;
-      unknown = tt;
-      held = has.held;
-      writes = record {
-        log = has.log;
-        reads = has.reads;
-        later = omega (arith, has.writes);
-        rose = λ fails. absurd cc;
-        unchanged = λ fine. has.writes;
-      };
-      never_missing = λ e. cc;
-    }
+-- and where some fail, so do all that begin with them
+pub appends_stopped : (part a b : List ℕ) (fault : DepotFault) (s t : Seen) → AppendsToPart part a (Err fault) s t → AppendsToPart part (a ++ b) (Err fault) s t
+appends_stopped part a b fault s t first = record { appended = tt; unknown = first.unknown; held = first.held; writes = first.writes; never_missing = first.never_missing }
