@@ -40,6 +40,7 @@ module _ (query : BoundQuery) (table : Table) (segment : Stored) (groups now : K
   pub adds_failed : (T U : Type 0) (f : EngineFault) (a b : Seen) → AddsSegment query table segment groups now a b (Failed T f) → AddsSegment query table segment groups now a b (Failed U f)
   adds_failed T U f a b p = record {
     added = tt;
+    opens = tt;
     full = λ e. p.full (ap Err (own_fault U f engine.TooManyGroups e));
     filled = λ e. p.filled (ap Err (own_fault U f engine.TooManyGroups e));
     bad = λ part e. p.bad part (ap Err (own_fault U f (engine.NotASegment part) e));
@@ -53,6 +54,7 @@ module _ (query : BoundQuery) (table : Table) (segment : Stored) (groups now : K
   pub adds_done : (T U : Type 0) (x : T) (y : U) (a b : Seen) → AddsSegment query table segment groups now a b (Done {E = EngineFault} x) → AddsSegment query table segment groups now a b (Done {E = EngineFault} y)
   adds_done T U x y a b p = record {
     added = p.added;
+    opens = p.opens;
     full = λ e. absurd (no_fault U y engine.TooManyGroups e);
     filled = λ e. absurd (no_fault U y engine.TooManyGroups e);
     bad = λ part e. absurd (no_fault U y (engine.NotASegment part) e);
@@ -66,6 +68,7 @@ module _ (query : BoundQuery) (table : Table) (segment : Stored) (groups now : K
   pub adds_lacking : (T U : Type 0) (x : T) (r : Result U EngineFault) (a b : Seen) → r ≡ Err engine.NoMemory → AddsSegment query table segment groups now a b (Done {E = EngineFault} x) → AddsSegment query table segment groups now a b r
   adds_lacking T U x r a b is p = record {
     added = fault_ok U r engine.NoMemory _ is;
+    opens = fault_ok U r engine.NoMemory _ is;
     full = λ e. absurd (fault_not U r engine.NoMemory engine.TooManyGroups memory_not_full is e);
     filled = λ e. absurd (fault_not U r engine.NoMemory engine.TooManyGroups memory_not_full is e);
     bad = λ part e. absurd (fault_not U r engine.NoMemory (engine.NotASegment part) (memory_not_bad part) is e);

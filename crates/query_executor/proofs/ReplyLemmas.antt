@@ -1,5 +1,5 @@
 -- The reply to a query's text over segments is that of its normal form.
-use Rattle.std.proofs.Common.{◌≡◌, ◌≢◌, ◌∙◌, ℕ, false, List, map, Option, Some, None, Ok, Err, IfSome, subst, true, cond, nat_lt, length, take, sym, ap, arith}
+use Rattle.std.proofs.Common.{◌≡◌, ◌≢◌, ◌∙◌, ℕ, false, List, [], map, Option, Some, None, Ok, Err, IfSome, subst, true, cond, nat_lt, length, take, sym, ap, arith}
 use Rattle.outside.specs.Files.{Files}
 use Rattle.values.specs.declared.value.Value.{Value}
 use Rattle.table_schema.specs.declared.query.BoundQuery.{BoundQuery}
@@ -16,13 +16,13 @@ use Rattle.std.proofs.lemmas.Bool.{lt-ltb}
 use Rattle.std.proofs.lemmas.List.{take_all}
 use Rattle.std.proofs.lemmas.Slice.Zip.{AllZip-long}
 use Rattle.group_table.specs.Groups.{Groups, groups_of}
-use Rattle.group_table.specs.Kept.{KeptGroups, groups_in}
+use Rattle.group_table.specs.Kept.{IsNew, KeptGroups, groups_in}
 use Rattle.group_table.specs.Shape.{Shape, shape_of}
 use Rattle.broker_merge.specs.Answer.{answer_of, answer_text}
 use Rattle.broker_merge.specs.Reply.{Reply, reply_over}
 use Rattle.scan_engine.specs.Scanned.{selected}
 use Rattle.segment_head.specs.Stored.{HasImage, live, names_of, stored_rows}
-use Rattle.query_executor.specs.Steps.{HasGroups, HaveTooMany, HasLines}
+use Rattle.query_executor.specs.Steps.{AddsFirst, AreOverfull, HasLines}
 use Rattle.sql_reply.specs.Asked.{asked}
 use Rattle.query_executor.specs.Explained.{IsExplained, lines_or}
 use Rattle.query_executor.specs.Lines.{in_order, plan_line}
@@ -49,19 +49,19 @@ module _ (table : Table) (stored : List Stored) (sql : List ℕ) where
 -- ---- over the groups of all segments
 
 module _ (query : BoundQuery) (table : Table) (stored : List Stored) where
-  pub all_answered : (held : Option Files) (groups : KeptGroups) (text : List ℕ) → HasGroups query table held stored (length stored) groups → replied (reply_over most_groups (shape_of query) (groups_in groups)) ≡ Ok text
+  pub all_answered : (held : Option Files) (first groups : KeptGroups) (text : List ℕ) → IsNew query most_groups first → AddsFirst query table held stored (length stored) first groups → replied (reply_over most_groups (shape_of query) (groups_in groups)) ≡ Ok text
       → IfSome held (λ files. IsBoundReply table files stored query (Ok text))
-  all_answered None groups text so is = tt
-  all_answered (Some files) groups text so is = λ segments all.
+  all_answered None first groups text new so is = tt
+  all_answered (Some files) first groups text new so is = λ segments all.
       let whole : take (length stored) segments ≡ segments = take_all (length stored) segments (omega (arith, AllZip-long (HasImage table files) stored segments all)) in
-      let groups_are : groups_in groups ≡ groups_of (shape_of query) (selected query (stored_rows table segments)) = so segments all ∙ ap (λ l. groups_of (shape_of query) (selected query (stored_rows table l))) whole in
+      let groups_are : groups_in groups ≡ groups_of (shape_of query) (selected query (stored_rows table segments)) = so segments all [] new.groups_are ∙ ap (λ l. groups_of (shape_of query) (selected query (stored_rows table l))) whole in
       ap (λ g. replied (reply_over most_groups (shape_of query) g)) (sym groups_are) ∙ is
 
-  pub too_many_refused : (held : Option Files) → HaveTooMany query table held stored most_groups → IfSome held (λ files. IsBoundReply table files stored query (Err (TooManyGroups most_groups)))
-  too_many_refused None over = tt
-  too_many_refused (Some files) over = λ segments all.
+  pub too_many_refused : (held : Option Files) (first : KeptGroups) → IsNew query most_groups first → AreOverfull query table held stored first → IfSome held (λ files. IsBoundReply table files stored query (Err (TooManyGroups most_groups)))
+  too_many_refused None first new over = tt
+  too_many_refused (Some files) first new over = λ segments all.
       let rows : List (List Value) = selected query (stored_rows table segments) in
-      let test : nat_lt 100000 (finite.len (groups_of (shape_of query) rows)) ≡ true = lt-ltb 100000 (finite.len (groups_of (shape_of query) rows)) (over segments all) in
+      let test : nat_lt 100000 (finite.len (groups_of (shape_of query) rows)) ≡ true = lt-ltb 100000 (finite.len (groups_of (shape_of query) rows)) (omega (arith, over segments all [] new.groups_are, new.most_is)) in
       ap replied (reply_by (shape_of query) (groups_of (shape_of query) rows) test)
     where
       reply_by : (shape : Shape) (groups : Groups) → nat_lt 100000 (finite.len groups) ≡ true → reply_over 100000 shape groups ≡ Reply.TooManyGroups

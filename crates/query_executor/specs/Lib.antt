@@ -4,3 +4,4 @@ pub mod Answers
 pub mod Explained
 pub mod Stated
 pub mod Passes
+pub mod Replies

@@ -1,6 +1,6 @@
 -- What is asked of a query over the segments of a table, and what a pass over them gives, is
 -- refused by and reads.
-use Rattle.std.specs.Prelude.{◌≡◌, ◌≤◌, ◌<◌, ◌-◌, ◌⊎◌, true, false, ℕ, Bool, List, [], Option, Some, None, Result, Ok, Err, IfSome, IsErrOf, OnErr, OnOk, length}
+use Rattle.std.specs.Prelude.{◌≡◌, ◌≤◌, ◌<◌, ◌+◌, ◌-◌, ◌*◌, ◌⊎◌, true, false, ℕ, List, [], Option, Some, None, Result, Ok, Err, IfSome, IsErrOf, OnErr, OnOk, length}
 use Rattle.std.specs.FinMap as finite
 use Rattle.std.specs.List.{All}
 use Rattle.agg_laws.specs.Numbers.{most_values}
@@ -22,7 +22,6 @@ use Rattle.segment_plan.specs.Named.{AreGroupsLoaded}
 use Rattle.segment_head.specs.declared.fault.EngineFault.{EngineFault}
 use Rattle.segment_head.specs.declared.fault.EngineFault.TheVariants as engine
 use Rattle.sql_reply.specs.Asked.{asked}
-use Rattle.sql_reply.specs.Reply.{most_groups}
 use Rattle.sql_reply.specs.declared.fault.SqlFault.{SqlFault}
 use Rattle.segment_reads.specs.Logs.{LogsHeadsOf, LogsIn, LogsOf}
 use Rattle.segment_reads.specs.Reads.{LogsEach, LogsOne, ReadsPlanned}
@@ -32,9 +31,10 @@ use Rattle.segment_opening.specs.Calls.{FailsInHead, HasOpeningIn, IsBadHead, Is
 use Rattle.segment_scan.specs.Images.{IsBadIn}
 use Rattle.star_answer.specs.Segments.{IsBadTree}
 use Rattle.query_executor.specs.Lines.{stats_line}
-use Rattle.query_executor.specs.Steps.{AddsStored, HasGroups, HasLines, IsStoredOverfull}
+use Rattle.query_executor.specs.Steps.{AddsFirst, AddsStored, HasLines, IsStoredOverfull}
 use Rattle.query_executor.specs.declared.fault.ExecutorFault.{ExecutorFault}
 use Rattle.query_executor.specs.declared.fault.ExecutorFault.TheVariants.{NotASegment, ReadFault}
+use Rattle.query_executor.specs.declared.pass.Pass.{Pass}
 
 -- ---- what is asked
 
@@ -54,6 +54,15 @@ pub record IsQueryOf (bound : BoundQuery) (table : Table) (segment : Stored) : T
   pub valid : IsValidTable table
   pub name : IsSegmentName segment.name
   pub query : IsValidQuery table bound
+
+-- a pass over these segments for a query may begin with these groups, of which so many are kept at
+-- most
+pub record CanBegin (query : BoundQuery) (table : Table) (stored : List Stored) (most : ℕ)
+    (groups : KeptGroups) : Type 0 where
+  pub over : IsQueryOver query table stored
+  pub of_query : IsTableOf query groups
+  pub most_is : groups.most ≡ most
+  pub fits : HaveAtMost (most_values - length stored * 1048576) (groups_in groups)
 
 -- the rows of one segment more may be added to these groups of a query
 pub record HasRoomFor (query : BoundQuery) (groups : KeptGroups) : Type 0 where
@@ -101,6 +110,7 @@ IsBadPlanned table held segment part = IsBadHead table held segment part
 pub record AddsSegment {A : Type 0} (query : BoundQuery) (table : Table) (segment : Stored)
     (groups groups_new : KeptGroups) (old new : Seen) (result : Result A EngineFault) : Type 0 where
   pub added : OnOk result (AddsStored query table old.held segment groups groups_new)
+  pub opens : OnOk result (HasOpeningIn table old.held segment)
   pub full : result ≡ Err engine.TooManyGroups
       → IsStoredOverfull query table old.held segment groups
   pub filled : result ≡ Err engine.TooManyGroups → finite.len (groups_in groups_new) ≡ groups.most
@@ -120,15 +130,18 @@ abbrev pub HaveOpenings : Table → Option Files → List Stored → Type 0
 HaveOpenings table held stored = (at : ℕ) → at < length stored
     → HasOpeningIn table held (segment_at stored at)
 
--- the groups of a query over the rows of all segments, and the lines of these where they are wanted
+-- the rows of all segments were added to the groups that a pass began with, and the lines of these
+-- segments were made where they are wanted; a pass may go on so
 pub record IsPassOver (query : BoundQuery) (table : Table) (held : Option Files)
-    (stored : List Stored) (wants_lines : Bool) (kept : KeptGroups) (text : List ℕ)
-    : Type 0 where
-  pub of_query : IsTableOf query kept
-  pub most : kept.most ≡ most_groups
-  pub groups : HasGroups query table held stored (length stored) kept
-  pub lines : wants_lines ≡ true
-      → HasLines (stats_line query table) table held stored (length stored) text
+    (stored : List Stored) (old new : Pass) : Type 0 where
+  pub of_query : IsTableOf query new.groups
+  pub most : new.groups.most ≡ old.groups.most
+  pub fits : (n : ℕ) → HaveAtMost n (groups_in old.groups)
+      → HaveAtMost (n + length stored * 1048576) (groups_in new.groups)
+  pub groups : AddsFirst query table held stored (length stored) old.groups new.groups
+  pub lines : old.wants_lines ≡ true
+      → HasLines (stats_line query table) table held stored (length stored) new.lines.items
+  pub openings : HaveOpenings table held stored
 
 -- what a pass over these segments is refused by, and what it reads of each
 pub record PassReads {A : Type 0} (query : BoundQuery) (table : Table) (stored : List Stored)

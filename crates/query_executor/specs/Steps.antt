@@ -1,6 +1,5 @@
 -- What is done with one segment of a table for a query.
-use Rattle.std.specs.Prelude.{◌≡◌, ◌<◌, ◌+◌, ◌++◌, ℕ, List, Option, IfSome, drop, take}
-use Rattle.std.specs.FinMap as finite
+use Rattle.std.specs.Prelude.{◌≡◌, ◌+◌, ◌++◌, ℕ, List, Option, IfSome, drop, take}
 use Rattle.std.specs.List.{AllZip}
 use Rattle.outside.specs.Files.{Files}
 use Rattle.values.specs.declared.value.Value.{Value}
@@ -18,7 +17,6 @@ use Rattle.segment_plan.specs.Laws.{IsPlannable}
 use Rattle.segment_plan.specs.Plan.{plan_of}
 use Rattle.segment_head.specs.declared.fault.EngineFault.TheVariants as engine
 use Rattle.segment_head.specs.declared.fault.EngineFault.{EngineFault}
-use Rattle.sql_reply.specs.Reply.{most_groups}
 use Rattle.sql_reply.specs.declared.fault.SqlFault.TheVariants as sql
 use Rattle.query_executor.specs.declared.fault.ExecutorFault.{ExecutorFault}
 use Rattle.query_executor.specs.declared.fault.ExecutorFault.TheVariants.{NotASegment, ReadFault, Sql}
@@ -59,29 +57,30 @@ IsStoredOverfull query table held segment old =
 
 -- ---- the rows of segments
 
--- what the fault of the answer of a segment is for the query, by the segment's number
-abbrev pub fault_at : ℕ → EngineFault → ExecutorFault
-fault_at at engine.TooManyGroups = Sql (sql.TooManyGroups most_groups)
-fault_at at (engine.NotASegment part) = NotASegment at part
-fault_at at engine.ReadFault = ReadFault
-fault_at at engine.NoMemory = Sql sql.NoMemory
+-- what the fault of the answer of a segment is for a query that may have so many groups, by the
+-- segment's number
+abbrev pub fault_at : ℕ → ℕ → EngineFault → ExecutorFault
+fault_at most at engine.TooManyGroups = Sql (sql.TooManyGroups most)
+fault_at most at (engine.NotASegment part) = NotASegment at part
+fault_at most at engine.ReadFault = ReadFault
+fault_at most at engine.NoMemory = Sql sql.NoMemory
 
--- these are the groups over the rows of the first so many segments, where files are told and are
--- images
-abbrev pub HasGroups : BoundQuery → Table → Option Files → List Stored → ℕ → KeptGroups → Type 0
-HasGroups query table held stored n groups =
+-- the rows of the first so many segments that satisfy the filter were added to the groups, where
+-- files are told and are images
+abbrev pub AddsFirst : BoundQuery → Table → Option Files → List Stored → ℕ → KeptGroups → KeptGroups
+    → Type 0
+AddsFirst query table held stored n old new =
     IfSome held (λ files. (segments : List (List (List Value)))
     → AllZip (HasImage table files) stored segments
-    → groups_in groups ≡ groups_of (shape_of query) (selected query
-    (stored_rows table (take n segments))))
+    → AddsGroups query (selected query (stored_rows table (take n segments))) old new)
 
--- there are more groups over the rows of all segments than so many, where files are told and are
--- images
-abbrev pub HaveTooMany : BoundQuery → Table → Option Files → List Stored → ℕ → Type 0
-HaveTooMany query table held stored most =
+-- with the rows of all segments there are more groups than there may be, where files are told and
+-- are images
+abbrev pub AreOverfull : BoundQuery → Table → Option Files → List Stored → KeptGroups → Type 0
+AreOverfull query table held stored old =
     IfSome held (λ files. (segments : List (List (List Value)))
     → AllZip (HasImage table files) stored segments
-    → most < finite.len (groups_of (shape_of query) (selected query (stored_rows table segments))))
+    → IsOverfull query (selected query (stored_rows table segments)) old)
 
 -- ---- the plans of segments
 

@@ -1,14 +1,12 @@
 //! What is said of the plans of the segments of a table for a query.
-ghost use Rattle.std.specs.Prelude.{◌≡◌, ◌≢◌, false, Ok, Err, IfOk, IfSome, OnOk, length, map};
+ghost use Rattle.std.specs.Prelude.{◌≡◌, Err, IfOk, OnOk, length, map};
 ghost use Rattle.outside.specs.Seen.{seen};
-ghost use Rattle.sql_reply.specs.Asked.{asked};
-ghost use Rattle.sql_reply.specs.SqlReply.{IsOfText};
 ghost use Rattle.sql_reply.specs.declared.fault.SqlFault.{SqlFault};
 ghost use Rattle.sql_reply.specs.declared.fault.SqlFault.TheVariants.{NoMemory};
 ghost use Rattle.segment_head.specs.Stored.{live};
-ghost use Rattle.query_executor.specs.Explained.{IsExplained};
 ghost use Rattle.query_executor.specs.Lines.{plan_line};
 ghost use Rattle.query_executor.specs.Passes.{AreSegmentsOf, HaveOpenings, IsQueryOver, LooksAtHeads};
+ghost use Rattle.query_executor.specs.Replies.{ExplainsText};
 ghost use Rattle.query_executor.specs.Steps.{HasLines};
 ghost use Rattle.query_executor.specs.declared.fault.ExecutorFault.TheVariants.{Sql};
 
@@ -17,7 +15,7 @@ use crate::planned::explain_segment;
 use crate::segment_fault::fault_at;
 use outside::{Bytes, Name, Seq, Shelf};
 use segment_head::{Stored, live_segments};
-use sql_reply::bound_query;
+use sql_reply::{MOST_GROUPS, bound_query};
 use std::alloc::Global;
 use table_schema::{BoundQuery, Table};
 
@@ -32,14 +30,7 @@ pub fn explain_query<S: Shelf>(
     sql: &str,
 ) -> Result<Bytes, ExecutorFault>
     requires { AreSegmentsOf table.now names.now }
-    ensures reply { IfOk result (λ text. IfSome (S.held shelf.old) (λ files.
-        IsExplained table.now files (map live names.now) sql.now (Ok text))) }
-    // What is wrong with the query's text is known before anything is read.
-    ensures of_text { (fault : SqlFault) → result ≡ Err (Sql fault) → fault ≢ NoMemory →
-        IsOfText fault × (seen S.Shelf shelf.new ≡ seen S.Shelf shelf.old)
-        × (asked table.now false sql.now ≡ Err fault) }
-    ensures opens { OnOk result (HaveOpenings table.now (S.held shelf.old) (map live names.now)) }
-    ensures looks { LooksAtHeads table.now (map live names.now)
+    ensures { ExplainsText table.now (map live names.now) sql.now
         (seen S.Shelf shelf.old) (seen S.Shelf shelf.new) result }
 {
     match bound_query(alloc, sql, table, false) {
@@ -72,7 +63,7 @@ fn explain_bound<S: Shelf>(
     'stored: for at in 0..stored.len() {
         match explain_segment(alloc, shelf, table, &stored[at], query, &mut text) {
             Ok(()) => {}
-            Err(fault) => return Err(fault_at(at as u32, fault)),
+            Err(fault) => return Err(fault_at(MOST_GROUPS, at as u32, fault)),
         }
     }
     Ok(Seq::from_vec(text))

@@ -13,10 +13,8 @@ mod planned;
 mod scanned;
 mod segment;
 mod segment_fault;
-mod stats;
 
-pub use executor::reply_to_query;
+pub use executor::{reply_to_query, stats_query};
 pub use explain::explain_query;
 pub use fault::ExecutorFault;
 pub use laws::docs_law;
-pub use stats::stats_query;

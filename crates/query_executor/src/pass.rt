@@ -1,16 +1,14 @@
 //! A pass over the segments of a table: their rows are added to the groups of a query, and a line
 //! is made for each where that is wanted.
-ghost use Rattle.std.specs.Prelude.{◌≡◌, ◌≢◌, ◌++◌, ℕ, true, [], Err, IfOk, OnOk};
+ghost use Rattle.std.specs.Prelude.{◌≡◌, ◌≢◌, ◌≤◌, ◌++◌, ℕ, true, [], Err, IfOk, OnOk};
 ghost use Rattle.std.specs.FinMap as finite;
 ghost use Rattle.outside.specs.Seen.{seen};
 ghost use Rattle.group_table.specs.Kept.{IsNew, groups_in};
-ghost use Rattle.sql_reply.specs.Reply.{most_groups};
 ghost use Rattle.sql_reply.specs.declared.fault.SqlFault.{SqlFault};
 ghost use Rattle.sql_reply.specs.declared.fault.SqlFault.TheVariants.{NoMemory, TooManyGroups};
-ghost use Rattle.segment_opening.specs.Calls.{HasOpeningIn};
 ghost use Rattle.query_executor.specs.Lines.{line_by, stats_line, stats_text};
-ghost use Rattle.query_executor.specs.Passes.{AddsSegment, HasRoomFor, HaveOpenings, IsPassOver, IsQueryOf, IsQueryOver, PassReads};
-ghost use Rattle.query_executor.specs.Steps.{AddsLine, HaveTooMany};
+ghost use Rattle.query_executor.specs.Passes.{AddsSegment, CanBegin, HasRoomFor, IsPassOver, IsQueryOf, PassReads};
+ghost use Rattle.query_executor.specs.Steps.{AddsLine, AreOverfull};
 ghost use Rattle.query_executor.specs.declared.fault.ExecutorFault.TheVariants.{Sql};
 
 use crate::ExecutorFault;
@@ -21,7 +19,6 @@ use group_table::GroupTable;
 use outside::Shelf;
 use segment_head::{EngineFault, Stored};
 use segment_plan::push_word;
-use sql_reply::MOST_GROUPS;
 use star_answer::docs_bound_law;
 use std::alloc::{AllocError, Global};
 use table_schema::{BoundQuery, Table};
@@ -30,6 +27,8 @@ use table_schema::{BoundQuery, Table};
 #[derive(Drop)]
 pub struct Pass {
     pub groups: GroupTable,
+    /// How many groups there may be.
+    pub most: u32,
     /// Whether lines are wanted.
     pub wants_lines: bool,
     /// A line for each segment, where that is wanted.
@@ -38,23 +37,31 @@ pub struct Pass {
 
 impl Pass {
     /// Nothing is made yet.
-    pub fn new(alloc: Global, query: &BoundQuery, wants_lines: bool) -> Result<Self, AllocError>
-        ensures groups { IfOk result (λ pass. IsNew query.now most_groups pass.groups) }
+    pub fn new(
+        alloc: Global,
+        query: &BoundQuery,
+        most: u32,
+        wants_lines: bool,
+    ) -> Result<Self, AllocError>
+        requires { 1 ≤ most }
+        ensures groups { IfOk result (λ pass. IsNew query.now most pass.groups) }
+        ensures most { IfOk result (λ pass. pass.most ≡ most) }
         ensures lines { IfOk result (λ pass. pass.lines.items ≡ []) }
         ensures wants { IfOk result (λ pass. pass.wants_lines ≡ wants_lines) }
     {
-        let groups = GroupTable::new(alloc, query, MOST_GROUPS)?;
+        let groups = GroupTable::new(alloc, query, most)?;
         let lines = Vec::new(alloc);
         Ok(Pass {
             groups,
+            most,
             wants_lines,
             lines,
         })
     }
 }
 
-/// Adds the rows of these segments to the groups of a query, one segment after the
-/// other, and the line of each where that is wanted.
+/// Adds the rows of these segments to the groups that a pass has, one segment after the other, and
+/// the line of each where that is wanted.
 pub(crate) fn pass_over<S: Shelf>(
     alloc: Global,
     shelf: &mut S,
@@ -63,25 +70,24 @@ pub(crate) fn pass_over<S: Shelf>(
     query: &BoundQuery,
     pass: &mut Pass,
 ) -> Result<(), ExecutorFault>
-    requires over { IsQueryOver query.now table.now stored.now }
-    requires begins { IsNew query.now most_groups pass.old.groups }
+    requires begins { CanBegin query.now table.now stored.now pass.old.most pass.old.groups }
     requires no_lines { pass.old.lines.items ≡ [] }
-    ensures made { OnOk result (IsPassOver query.now table.now (S.held shelf.old) stored.now
-        pass.old.wants_lines pass.new.groups pass.new.lines.items) }
+    ensures made { OnOk result
+        (IsPassOver query.now table.now (S.held shelf.old) stored.now pass.old pass.new) }
     ensures refused { (fault : SqlFault) → result ≡ Err (Sql fault) → fault ≢ NoMemory →
-        (fault ≡ TooManyGroups most_groups)
-        × HaveTooMany query.now table.now (S.held shelf.old) stored.now most_groups }
+        (fault ≡ TooManyGroups pass.old.most)
+        × AreOverfull query.now table.now (S.held shelf.old) stored.now pass.old.groups }
     ensures filled { (most : ℕ) → result ≡ Err (Sql (TooManyGroups most)) →
         finite.len (groups_in pass.new.groups) ≡ pass.old.groups.most }
-    ensures opens { OnOk result (HaveOpenings table.now (S.held shelf.old) stored.now) }
     ensures passes { PassReads query.now table.now stored.now
         (seen S.Shelf shelf.old) (seen S.Shelf shelf.new) result }
 {
     docs_bound_law();
+    let most = pass.most;
     'stored: for at in 0..stored.len() {
         match pass_one(alloc, shelf, table, &stored[at], query, pass) {
             Ok(()) => {}
-            Err(fault) => return Err(fault_at(at as u32, fault)),
+            Err(fault) => return Err(fault_at(most, at as u32, fault)),
         }
     }
     Ok(())
@@ -104,7 +110,6 @@ fn pass_one<S: Shelf>(
         AddsLine (stats_line query.now table.now) table.now (S.held shelf.old) segment.now
         pass.old.lines.items pass.new.lines.items) }
     ensures wants { pass.new.wants_lines ≡ pass.old.wants_lines }
-    ensures opens { OnOk result (HasOpeningIn table.now (S.held shelf.old) segment.now) }
 {
     let done = match add_segment(alloc, shelf, table, segment, query, &mut pass.groups) {
         Ok(done) => done,

@@ -1,8 +1,7 @@
 //! The rows of a segment are added to the groups of a query.
-ghost use Rattle.std.specs.Prelude.{IfOk, OnOk};
+ghost use Rattle.std.specs.Prelude.{IfOk};
 ghost use Rattle.outside.specs.Seen.{seen};
 ghost use Rattle.segment_reads.specs.Looked.{IsDoneIn};
-ghost use Rattle.segment_opening.specs.Calls.{HasOpeningIn};
 ghost use Rattle.query_executor.specs.Passes.{AddsSegment, HasRoomFor, IsQueryOf};
 
 use crate::adding::add_planned;
@@ -34,7 +33,6 @@ pub(crate) fn add_segment<S: Shelf>(
         (seen S.Shelf shelf.old) (seen S.Shelf shelf.new) result }
     ensures done { IfOk result (λ done. IsDoneIn query.now table.now (S.held shelf.old) segment.now
         done.plan done.docs) }
-    ensures opens { OnOk result (HasOpeningIn table.now (S.held shelf.old) segment.now) }
 {
     docs_bound_law();
     let mut head = match open_segment(alloc, shelf, table, segment) {

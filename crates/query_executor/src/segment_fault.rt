@@ -4,14 +4,15 @@ ghost use Rattle.query_executor.specs.Steps as spec;
 
 use crate::ExecutorFault;
 use segment_head::EngineFault;
-use sql_reply::{MOST_GROUPS, SqlFault};
+use sql_reply::SqlFault;
 
-/// What the fault of the scan of a segment, by its number, is for the query.
-pub(crate) fn fault_at(at: u32, fault: EngineFault) -> ExecutorFault
-    ensures { result ≡ spec.fault_at at fault }
+/// What the fault of the scan of a segment, by its number, is for a query that may have so many
+/// groups.
+pub(crate) fn fault_at(most: u32, at: u32, fault: EngineFault) -> ExecutorFault
+    ensures { result ≡ spec.fault_at most at fault }
 {
     match fault {
-        EngineFault::TooManyGroups => ExecutorFault::Sql(SqlFault::TooManyGroups(MOST_GROUPS)),
+        EngineFault::TooManyGroups => ExecutorFault::Sql(SqlFault::TooManyGroups(most)),
         EngineFault::NotASegment(part) => ExecutorFault::NotASegment(at, part),
         EngineFault::ReadFault => ExecutorFault::ReadFault,
         EngineFault::NoMemory => ExecutorFault::Sql(SqlFault::NoMemory),

@@ -94,6 +94,7 @@ returns-in_err-plan g c =
     record {
       adds = λ segment o. record {
         added = fault_ok _ r engine.NoMemory _ is;
+        opens = fault_ok _ r engine.NoMemory _ is;
         full = λ e. absurd (fault_not _ r engine.NoMemory engine.TooManyGroups memory_not_full is e);
         filled = λ e. absurd (fault_not _ r engine.NoMemory engine.TooManyGroups memory_not_full is e);
         bad = λ part e. absurd (fault_not _ r engine.NoMemory (engine.NotASegment part) (memory_not_bad part) is e);
@@ -121,6 +122,7 @@ returns-in-Ok g c =
     record {
       adds = λ segment o. let is = o.image in let spread = o.spread in let inside = o.placed in record {
         added = adds_scanned query table segment head a.held c.args.groups.now c.scan_segment.new.groups c.requires.loaded.asked.of_table c.in-Ok.ensures.ok is;
+        opens = o.opening;
         full = λ e. absurd (no_fault _ _ engine.TooManyGroups e);
         filled = λ e. absurd (no_fault _ _ engine.TooManyGroups e);
         bad = λ part e. absurd (no_fault _ _ (engine.NotASegment part) e);
@@ -151,6 +153,7 @@ returns-in-Err g c =
     record {
       adds = λ segment o. let is = o.image in let spread = o.spread in let inside = o.placed in record {
         added = tt;
+        opens = tt;
         full = λ e. overfull_scanned query table segment head a.held c.args.groups.now (c.in-Err.ensures.full (ap Err (own_fault _ fault engine.TooManyGroups e))) is;
         filled = λ e. c.in-Err.ensures.filled (ap Err (own_fault _ fault engine.TooManyGroups e));
         bad = λ part e.
@@ -178,6 +181,7 @@ returns-in-Pruned g c =
     record {
       adds = λ segment o. let is = o.image in let spread = o.spread in let inside = o.placed in record {
         added = adds_none query table segment head c.head_tells_law.ensures c.requires.loaded.asked.valid a.held c.args.groups.now c.requires.room.of_query (λ rows tells. c.pruned_law.ensures query table rows head tells (is_pruned_so query table head planned)) is;
+        opens = o.opening;
         full = λ e. absurd (no_fault _ _ engine.TooManyGroups e);
         filled = λ e. absurd (no_fault _ _ engine.TooManyGroups e);
         bad = λ part e. absurd (no_fault _ _ (engine.NotASegment part) e);
@@ -201,6 +205,7 @@ returns-in-Empty g c =
     record {
       adds = λ segment o. let is = o.image in let spread = o.spread in let inside = o.placed in record {
         added = adds_none query table segment head c.head_tells_law.ensures c.requires.loaded.asked.valid a.held c.args.groups.now c.requires.room.of_query (λ rows tells. c.empty_law.ensures query.conjuncts table rows head tells c.requires.loaded.filtered (is_empty_so query table head planned)) is;
+        opens = o.opening;
         full = λ e. absurd (no_fault _ _ engine.TooManyGroups e);
         filled = λ e. absurd (no_fault _ _ engine.TooManyGroups e);
         bad = λ part e. absurd (no_fault _ _ (engine.NotASegment part) e);
@@ -226,6 +231,7 @@ returns-in-Ok-answer_segment g c =
     record {
       adds = λ segment o. let is = o.image in let spread = o.spread in let inside = o.placed in record {
         added = adds_answered query table segment head a.held c.args.groups.now c.answer_segment.new.groups c.requires.loaded.asked.of_table c.in-Ok-answer_segment.ensures.ok is;
+        opens = o.opening;
         full = λ e. absurd (no_fault _ _ engine.TooManyGroups e);
         filled = λ e. absurd (no_fault _ _ engine.TooManyGroups e);
         bad = λ part e. absurd (no_fault _ _ (engine.NotASegment part) e);
@@ -254,6 +260,7 @@ returns-in-Err-answer_segment g c =
     record {
       adds = λ segment o. let is = o.image in let spread = o.spread in let inside = o.placed in record {
         added = tt;
+        opens = tt;
         full = λ e.
             overfull_answered query table segment head a.held c.args.groups.now
             (c.in-Err-answer_segment.ensures.full (ap Err (own_fault _ fault engine.TooManyGroups e))) is;

@@ -64,7 +64,7 @@ stored-preserved g c =
     }
 
 pub returns-in-Err-clause-never_wrong : goal.returns-in-Err-clause-never_wrong
-returns-in-Err-clause-never_wrong g c = λ fault is. wrong_so _ c.in-Err.fault fault (sym c.fault_at.ensures ∙ cc) (λ full. c.in-Err.ensures.looks.never_full (ap Err full))
+returns-in-Err-clause-never_wrong g c = λ fault is. wrong_so _ _ c.in-Err.fault fault (sym c.fault_at.ensures ∙ cc) (λ full. c.in-Err.ensures.looks.never_full (ap Err full))
 
 pub returns-in-Err-clause-looks : goal.returns-in-Err-clause-looks
 returns-in-Err-clause-looks g c = record {
@@ -73,7 +73,7 @@ returns-in-Err-clause-looks g c = record {
       let segment : Stored = c.index-stored-at.result in
       let lt : c.stored.at < length stored = omega arith in
       let named : segment ≡ segment_at stored c.stored.at = is_at stored c.stored.at segment lt c.index-stored-at.is in
-      let (at_is, bad) = bad_so _ at c.in-Err.fault part (sym c.fault_at.ensures ∙ cc) in
+      let (at_is, bad) = bad_so _ _ at c.in-Err.fault part (sym c.fault_at.ensures ∙ cc) in
       let own : IsBadHead c.args.table.now (g.S.Shelf.held c.args.shelf.now) (segment_at stored c.stored.at) part =
       subst (λ segment. IsBadHead c.args.table.now (g.S.Shelf.held c.args.shelf.now) segment part) named
       (subst (λ held. IsBadHead c.args.table.now held segment part) c.stored.invariant.reads.held (c.in-Err.ensures.looks.bad part (ap Err bad))) in
@@ -83,8 +83,8 @@ returns-in-Err-clause-looks g c = record {
       let b : Seen = seen g.S.Shelf c.stored.shelf in
       let d : Seen = seen g.S.Shelf c.explain_segment.new.shelf in
       reads_then a b d c.stored.invariant.reads
-      (reads_as b d c.in-Err.ensures.looks.only_reads (λ e. let own : c.fault_at.result ≡ ReadFault = cc in ap Err (read_so _ c.in-Err.fault (sym c.fault_at.ensures ∙ own)))
-      (λ e. let own : c.in-Err.fault ≡ engine.ReadFault = cc in ap Err (c.fault_at.ensures ∙ ap (fault_at _) own)));
+      (reads_as b d c.in-Err.ensures.looks.only_reads (λ e. let own : c.fault_at.result ≡ ReadFault = cc in ap Err (read_so _ _ c.in-Err.fault (sym c.fault_at.ensures ∙ own)))
+      (λ e. let own : c.in-Err.fault ≡ engine.ReadFault = cc in ap Err (c.fault_at.ensures ∙ ap (fault_at _ _) own)));
   log =
       let stored : List Stored = c.args.stored.now in
       let segment : Stored = c.index-stored-at.result in

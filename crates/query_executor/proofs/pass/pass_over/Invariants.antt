@@ -1,13 +1,12 @@
-use Rattle.std.proofs.Common.{◌≡◌, ◌*◌, ◌<◌, ℕ, [], get_or, true}
+use Rattle.std.proofs.Common.{◌≡◌, ◌+◌, ◌*◌, ◌<◌, ℕ, [], get_or, true}
 use Rattle.outside.specs.Seen.{OnlyReads, seen}
 use Rattle.group_table.specs.Kept.{IsTableOf, groups_in}
 use Rattle.scan_engine.specs.Scanned.{HaveAtMost}
-use Rattle.sql_reply.specs.Reply.{most_groups}
 use Rattle.segment_reads.specs.Logs.{LogsOf, LogsWhere}
 use Rattle.segment_reads.specs.Reads.{LogsEach, ReadsPlanned}
 use Rattle.segment_reads.proofs.GrownLemmas.{IsFileBefore}
 use Rattle.segment_opening.specs.Calls.{HasOpeningIn}
-use Rattle.query_executor.specs.Steps.{HasGroups, HasLines}
+use Rattle.query_executor.specs.Steps.{AddsFirst, HasLines}
 use Rattle.query_executor.specs.Lines.{stats_line}
 use Rattle.query_executor.proofs.pass.pass_over.Given as goal
 use Rattle.segment_head.specs.Stored.{segment_at}
@@ -15,9 +14,9 @@ use Rattle.segment_head.specs.Stored.{segment_at}
 abbrev pub invariant-stored : goal.invariant-stored
 invariant-stored g l = record {
   of_query : IsTableOf l.query l.pass.groups;
-  most : l.pass.groups.most ≡ most_groups;
-  fits : HaveAtMost (l.at * 1048576) (groups_in l.pass.groups);
-  so_far : HasGroups l.query l.table (g.S.Shelf.held l.fn.shelf) l.stored l.at l.pass.groups;
+  most : l.pass.groups.most ≡ l.fn.pass.groups.most;
+  fits : (n : ℕ) → HaveAtMost n (groups_in l.fn.pass.groups) → HaveAtMost (n + l.at * 1048576) (groups_in l.pass.groups);
+  so_far : AddsFirst l.query l.table (g.S.Shelf.held l.fn.shelf) l.stored l.at l.fn.pass.groups l.pass.groups;
   wants : l.pass.wants_lines ≡ l.fn.pass.wants_lines;
   lines : l.fn.pass.wants_lines ≡ true → HasLines (stats_line l.query l.table) l.table (g.S.Shelf.held l.fn.shelf) l.stored l.at l.pass.lines.items;
   opens : (k : ℕ) → k < l.at → HasOpeningIn l.table (g.S.Shelf.held l.fn.shelf) (segment_at l.stored k);

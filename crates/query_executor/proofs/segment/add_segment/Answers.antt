@@ -53,6 +53,7 @@ returns-in-Err g c =
     record {
       adds = record {
         added = tt;
+        opens = tt;
         full = λ is. absurd (c.in-Err.ensures.looks.never_full (ap Err (own_fault _ c.in-Err.fault engine.TooManyGroups is)));
         filled = λ is. absurd (c.in-Err.ensures.looks.never_full (ap Err (own_fault _ c.in-Err.fault engine.TooManyGroups is)));
         bad = λ part is. let bad = c.in-Err.ensures.looks.bad part (ap Err (own_fault _ c.in-Err.fault (engine.NotASegment part) is)) in (inl bad.0, bad.1);
@@ -61,7 +62,6 @@ returns-in-Err g c =
         reads = tt;
         reads_of_fault = given_up c.args.query.now table segment c.docs_bound_law.ensures.bound c.requires.of_table.valid a.held a.log b.log (opened_one c.args.query.now table segment c.requires.of_table.valid c.requires.of_table.name a.held a.log b.log c.in-Err.ensures.looks.log);
       };
-      opens = tt;
       done = tt;
     }
 
@@ -79,6 +79,7 @@ returns-then-prune g c =
     record {
       adds = record {
         added = adds_none query table segment head c.head_tells_law.ensures c.requires.of_table.valid a.held c.args.groups.now c.requires.room.of_query (λ rows tells. c.pruned_law.ensures query table rows head tells is) c.in-Ok.ensures.opened.image;
+        opens = c.in-Ok.ensures.opened.opening;
         full = λ fault. absurd (no_fault _ _ engine.TooManyGroups fault);
         filled = λ fault. absurd (no_fault _ _ engine.TooManyGroups fault);
         bad = λ part fault. absurd (no_fault _ _ (engine.NotASegment part) fault);
@@ -87,7 +88,6 @@ returns-then-prune g c =
         reads = quiet_one query table segment a.held c.nothing.result.plan c.nothing.result.docs a.log b.log done (inl c.nothing.ensures.plan) (opened_one query table segment c.requires.of_table.valid c.requires.of_table.name a.held a.log b.log c.in-Ok.ensures.looks.log);
         reads_of_fault = tt;
       };
-      opens = c.in-Ok.ensures.opened.opening;
       done = done;
     }
 
@@ -107,6 +107,7 @@ returns-in-Err-load_wanted g c =
     record {
       adds = record {
         added = tt;
+        opens = tt;
         full = λ is. absurd (c.in-Err-load_wanted.ensures.loads.never_full (ap Err (own_fault _ fault engine.TooManyGroups is)));
         filled = λ is. absurd (c.in-Err-load_wanted.ensures.loads.never_full (ap Err (own_fault _ fault engine.TooManyGroups is)));
         bad = λ part is.
@@ -122,7 +123,6 @@ returns-in-Err-load_wanted g c =
             (heads_then query table segment a.held a.log b.log d.log opened loaded
             (opened_one query table segment c.requires.of_table.valid c.requires.of_table.name a.held a.log b.log c.in-Ok.ensures.looks.log) (loaded_one query table segment a.held head b.log d.log c.in-Ok.ensures.opened.placed c.in-Ok.ensures.opened.spread c.in-Err-load_wanted.ensures.loads.log));
       };
-      opens = tt;
       done = tt;
     }
 
@@ -149,6 +149,7 @@ returns g c =
     record {
       adds = record {
         added = subst (λ h. OnOk c.add_planned.result (AddsStored query table h segment c.args.groups.now c.add_planned.new.groups)) same adds.added;
+        opens = on_ok c.add_planned.result c.in-Ok.ensures.opened.opening;
         full = λ is. subst (λ h. IsStoredOverfull query table h segment c.args.groups.now) same (adds.full is);
         filled = adds.filled;
         bad = λ part is. subst (λ h. IsBadPart query table h segment part) same (adds.bad part is);
@@ -161,7 +162,6 @@ returns g c =
         reads_of_fault = err_so c.add_planned.result (LogsOne (ReadsPlanned query table false) table d.held segment d.log e.log) (LogsOne (ReadsPlanned query table false) table a.held segment a.log e.log)
             (λ reads. headed_one query table segment false a.held a.log d.log e.log first adds.log heads (subst (λ h. LogsOne (ReadsPlanned query table false) table h segment d.log e.log) same reads)) adds.reads_of_fault;
       };
-      opens = on_ok c.add_planned.result c.in-Ok.ensures.opened.opening;
       done = subst (λ h. IfOk c.add_planned.result (λ done. IsDoneIn query table h segment done.plan done.docs)) same
           (found_so c.add_planned.result (λ done. (segment : Stored) → IsHeadIn table d.held segment full → IsDoneIn query table d.held segment done.plan done.docs) (λ done. IsDoneIn query table d.held segment done.plan done.docs)
           (λ done is. is segment later.image) c.add_planned.ensures.done);
