@@ -1,6 +1,8 @@
 -- The bounds of tests that are made of others, and the ids that match them.
-use Rattle.std.proofs.Common.{◌≡◌, ◌∙◌, ◌<◌, ◌≤◌, ◌+◌, ◌-◌, ◌++◌, ℕ, Bool, pos, List, [], ◌∷◌, Result, IfOk, Option, Some, None, length, get_or, map, drop, take, refl, sym, ap, subst, arith, append_assoc, append-nil}
-use Rattle.std.proofs.lemmas.List.{get_or_append_left, get_or-append-add, get_or-drop, get_or-take, get_or_default, length-append, length-drop, length-take}
+use Rattle.std.proofs.Common.{◌≡◌, ◌∙◌, ◌<◌, ◌≤◌, ◌+◌, ◌-◌, ◌++◌, ℕ, Bool, pos, List, [], ◌∷◌, Result, IfOk, Option, Some, None, length, get_or, map, drop, take, inl, inr, refl, sym, ap, subst, arith, append_assoc, append-nil}
+use Rattle.std.proofs.lemmas.List.{get_or_append_left, get_or-append-add, get_or-drop, get_or-take, get_or_default, length-append, length-drop, length-take, take_more}
+use Rattle.std.proofs.lemmas.Bool.{cases_lt}
+use Rattle.std.proofs.Math.Seq.{get_or-append_seam}
 use Rattle.std.specs.List.{slice_get}
 use Rattle.values.specs.declared.value.Value.{Value}
 use Rattle.values.specs.declared.value.Value.TheVariants.{Whole}
@@ -56,6 +58,26 @@ pub cut_there : (at k n : ℕ) (bounds : List Value) (cuts : List Cut) (values :
 cut_there at k n bounds cuts values bound c lt place is are =
     let one : Cuts values (get_or bounds k bound) (get_or cuts n c).from (get_or cuts n c).to = subst (λ (m : ℕ). Cuts values (get_or bounds k bound) (get_or cuts m c).from (get_or cuts m c).to) (sym place) (are k bound c lt) in
     subst (λ v. Cuts values v (get_or cuts n c).from (get_or cuts n c).to) (sym is) one
+
+-- one more cut
+pub cuts_more : (bounds : List Value) (i : ℕ) (bound : Value) (old new : List Cut) (cut : Cut) (values : List Value) → i < length bounds → bound ≡ get_or bounds i bound → length old ≡ i → new ≡ old ++ cut ∷ [] → AreCutsFrom 0 (take i bounds) old values → Cuts values bound cut.from cut.to
+    → AreCutsFrom 0 (take (i + 1) bounds) new values
+cuts_more bounds i bound old new cut values lt is long next before now k b c within =
+    let front : length (take i bounds) ≡ i = omega (arith, lt, length-take i bounds) in
+    let all : length (take (i + 1) bounds) ≡ i + 1 = omega (arith, lt, length-take (i + 1) bounds) in
+    let shape : take (i + 1) bounds ≡ take i bounds ++ bound ∷ [] = take_more bounds i bound lt ∙ ap (λ x. take i bounds ++ x ∷ []) (sym is) in
+    elim (cases_lt k i) [
+      | inl below ↦
+          let one : get_or (take (i + 1) bounds) k b ≡ get_or (take i bounds) k b = ap (λ xs. get_or xs k b) shape ∙ get_or_append_left (take i bounds) (bound ∷ []) b k (omega (arith, below, front)) in
+          let two : get_or new (0 + k) c ≡ get_or old (0 + k) c = ap (λ xs. get_or xs (0 + k) c) next ∙ get_or_append_left old (cut ∷ []) c (0 + k) (omega (arith, below, long)) in
+          subst (λ (x : Cut). Cuts values (get_or (take (i + 1) bounds) k b) x.from x.to) (sym two) (subst (λ v. Cuts values v (get_or old (0 + k) c).from (get_or old (0 + k) c).to) (sym one) (before k b c (omega (arith, below, front))))
+      | inr le ↦
+          let first : k ≡ length (take i bounds) = omega (arith, le, within, all, front) in
+          let second : 0 + k ≡ length old = omega (arith, le, within, all, long) in
+          let one : get_or (take (i + 1) bounds) k b ≡ bound = ap (λ xs. get_or xs k b) shape ∙ ap (λ n. get_or (take i bounds ++ bound ∷ []) n b) first ∙ get_or-append_seam (take i bounds) bound [] b in
+          let two : get_or new (0 + k) c ≡ cut = ap (λ xs. get_or xs (0 + k) c) next ∙ ap (λ n. get_or (old ++ cut ∷ []) n c) second ∙ get_or-append_seam old cut [] c in
+          subst (λ (x : Cut). Cuts values (get_or (take (i + 1) bounds) k b) x.from x.to) (sym two) (subst (λ v. Cuts values v cut.from cut.to) (sym one) now)
+    ]
 
 -- ---- tests of one value
 

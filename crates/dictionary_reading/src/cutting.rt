@@ -1,17 +1,18 @@
 //! Where a bound cuts the values of a dictionary that lies in a file.
-ghost use Rattle.std.specs.Prelude.{◌≡◌, ◌≤◌, ◌<◌, ◌+◌, ◌*◌, IfOk, IsErrOf, Some, get_or, slice_get};
+ghost use Rattle.std.specs.Prelude.{◌≡◌, ◌≤◌, ◌<◌, ◌+◌, ◌*◌, ◌++◌, ◌∷◌, [], IfOk, IsErrOf, OnOk, Some, get_or, length, slice_get};
 ghost use Rattle.outside.specs.Seen.{OnlyReads, seen};
 ghost use Rattle.values.specs.Order.{value_order};
 ghost use Rattle.values.specs.declared.value.Value as spec;
-ghost use Rattle.value_ids.specs.Ids.{Cuts};
+ghost use Rattle.value_ids.specs.Ids.{Cuts, matching};
+ghost use Rattle.dictionary_reading.specs.Bounds.{AreCutsFrom, bounds_of};
 ghost use Rattle.dictionary_reading.specs.InFile.{HasRoom, IsBlockOf, LogsInside, OfDictionary};
 
-use crate::{FileDictionary, LookupFault};
+use crate::{FileDictionary, LookupFault, bounds_of, matching_ids};
 use outside::Shelf;
-use std::alloc::Global;
+use std::alloc::{AllocError, Global};
 use std::cmp::Ordering;
-use value_ids::Cut;
-use values::Value;
+use value_ids::{Cut, IdSet};
+use values::{Test, Value};
 
 impl FileDictionary {
     /// Where a bound cuts the values: it is found by halving, and of at most 21 values the bytes
@@ -51,6 +52,60 @@ impl FileDictionary {
             }
         }
         Ok(Cut { from: low, to: low })
+    }
+
+    /// The ids of the values that satisfy a test. Each bound of the test is cut, and no value is
+    /// tested.
+    pub fn ids_matching<S: Shelf>(
+        &self,
+        alloc: Global,
+        shelf: &mut S,
+        test: &Test,
+    ) -> Result<IdSet, LookupFault>
+        requires room { HasRoom self.now }
+        ensures ids { IfOk result (λ ids. OfDictionary self.now (S.held shelf.old)
+            (λ d. ids ≡ matching test.now d.values)) }
+        ensures bad { IsErrOf result LookupFault.NoDictionary →
+            OfDictionary self.now (S.held shelf.old) (λ _. ⊥) }
+        ensures only_reads { OnlyReads (IsErrOf result LookupFault.ReadFault)
+            (seen S.Shelf shelf.old) (seen S.Shelf shelf.new) }
+        ensures log { LogsInside self.now.place (10920 * length (bounds_of test.now))
+            (S.log shelf.old) (S.log shelf.new) }
+    {
+        let bounds = bounds_of(alloc, test)?;
+        let cuts = match self.cuts(alloc, shelf, &bounds) {
+            Ok(cuts) => cuts,
+            Err(fault) => return Err(fault),
+        };
+        Ok(matching_ids(alloc, test, &cuts, self.count)?)
+    }
+
+    // Where bounds cut the values, one after the other.
+    fn cuts<S: Shelf>(
+        &self,
+        alloc: Global,
+        shelf: &mut S,
+        bounds: &[Value],
+    ) -> Result<Vec<Cut>, LookupFault>
+        requires room { HasRoom self.now }
+        ensures each { IfOk result (λ cuts. length cuts.items ≡ length bounds.now) }
+        ensures cuts { IfOk result (λ cuts. OfDictionary self.now (S.held shelf.old)
+            (λ d. AreCutsFrom 0 bounds.now cuts.items d.values)) }
+        ensures bad { IsErrOf result LookupFault.NoDictionary →
+            OfDictionary self.now (S.held shelf.old) (λ _. ⊥) }
+        ensures only_reads { OnlyReads (IsErrOf result LookupFault.ReadFault)
+            (seen S.Shelf shelf.old) (seen S.Shelf shelf.new) }
+        ensures log { LogsInside self.now.place (10920 * length bounds.now)
+            (S.log shelf.old) (S.log shelf.new) }
+    {
+        let mut cuts = Vec::with_capacity(alloc, bounds.len())?;
+        'bounds: for bound in bounds {
+            match self.cut(alloc, shelf, bound) {
+                Ok(cut) => keep_cut(&mut cuts, cut)?,
+                Err(fault) => return Err(fault),
+            }
+        }
+        Ok(cuts)
     }
 
     // How the value of an id stands to a bound.
@@ -99,4 +154,11 @@ impl FileDictionary {
             Err(fault) => Err(fault),
         }
     }
+}
+
+fn keep_cut(cuts: &mut Vec<Cut>, cut: Cut) -> Result<(), AllocError>
+    ensures { OnOk result (cuts.new.items ≡ cuts.old.items ++ cut ∷ []) }
+{
+    cuts.push(cut)?;
+    Ok(())
 }

@@ -86,8 +86,8 @@ fn keep(values: &mut Vec<Value>, value: Value) -> Result<(), AllocError>
     Ok(())
 }
 
-// How many of these ids, from the first on, ascend and are near it.
-fn count_near(ids: &[u32]) -> usize
+/// How many of these ids, from the first on, ascend and are near it.
+pub(crate) fn count_near(ids: &[u32]) -> usize
     requires { 0 < length ids.now }
     ensures some { 0 < result }
     ensures within { result ≤ length ids.now }
