@@ -12,8 +12,8 @@ use Rattle.dictionary.specs.Spelling.{counted, numbers, texts}
 use Rattle.dictionary_reading.specs.declared.block.Block.{Block}
 use Rattle.dictionary_reading.specs.declared.in_file.FileDictionary.{FileDictionary}
 use Rattle.dictionary_reading.specs.InFile.{AreStarts, IsBlockOf, IsBodyOf, IsSpelledAt, OfDictionary, part, room_of, start_of}
-use Rattle.dictionary_reading.proofs.Blocks.{numbers_at, numbers_long, place_long, spelled_count, start_at, starts_at, texts_at, texts_long, up_to}
-use Rattle.dictionary_reading.proofs.Parts.{part-part, start_last, start_near}
+use Rattle.dictionary_reading.proofs.Blocks.{numbers_at, numbers_long, place_long, start_at, starts_at, texts_at, texts_long, up_to}
+use Rattle.dictionary_reading.proofs.Parts.{start_last, start_near}
 use Rattle.dictionary_reading.proofs.CutLemmas.{of_both, of_more}
 
 -- ---- how much room there is

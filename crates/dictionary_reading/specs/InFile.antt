@@ -1,6 +1,6 @@
 -- Dictionaries that are read where they lie in a file.
-use Rattle.std.specs.Prelude.{◌≡◌, ◌≤◌, ◌<◌, ◌+◌, ◌-◌, ◌*◌, ◌^◌, ◌++◌, ℕ, List, length, take, drop, Option, Some, IfSome, option_map, sum_by}
-use Rattle.std.specs.List.{All, AllZip, slice_get}
+use Rattle.std.specs.Prelude.{◌≡◌, ◌≤◌, ◌<◌, ◌+◌, ◌-◌, ◌*◌, ◌^◌, ◌++◌, ℕ, List, length, take, drop, Option, IfSome, option_map, sum_by}
+use Rattle.std.specs.List.{All}
 use Rattle.outside.specs.Files.{Files}
 use Rattle.outside.specs.Reads.{Entry}
 use Rattle.outside.specs.declared.place.Place.{Place}

@@ -1,21 +1,18 @@
 -- What a dictionary that is read where it lies tells of the whole head.
-use Rattle.std.proofs.Common.{◌≡◌, ◌≢◌, ◌∙◌, ◌<◌, ◌≤◌, ◌+◌, ◌*◌, ℕ, List, [], length, get_or, take, drop, Option, Some, None, IfSome, IsTrue, false, Result, Ok, Err, IsErrOf, refl, sym, ap, subst, arith}
+use Rattle.std.proofs.Common.{◌≡◌, ◌∙◌, ◌<◌, ◌≤◌, ◌+◌, ℕ, List, [], length, get_or, take, drop, Option, Some, None, IfSome, IsTrue, false, Ok, Err, IsErrOf, refl, sym, ap, subst, arith}
 use Rattle.std.proofs.lemmas.Bool.{false≢true}
 use Rattle.std.proofs.lemmas.List.{length-drop, length-take}
 use Rattle.std.proofs.lemmas.Option.{slice_get-get_or}
-use Rattle.std.specs.List.{All, slice_get}
 use Rattle.outside.specs.Files.{Files, bytes_at, bytes_of}
 use Rattle.outside.specs.Reads.{Entry, LogsUpTo}
 use Rattle.outside.specs.Seen as outside
 use Rattle.outside.specs.Seen.{OnlyReads}
 use Rattle.outside.specs.declared.place.Place.{Place}
 use Rattle.outside.proofs.SeenLemmas.{reads_after, reads_so}
-use Rattle.data_types.specs.declared.kind.FieldKind.{FieldKind}
 use Rattle.table_schema.specs.declared.table.Table.{Table}
 use Rattle.value_ids.specs.Coding.{AreBelow}
 use Rattle.value_ids.specs.Dictionary.{Distinct}
 use Rattle.bit_column.specs.Sections.{section}
-use Rattle.dictionary.specs.Spelling.{spelling}
 use Rattle.dictionary_reading.specs.declared.in_file.FileDictionary.{FileDictionary}
 use Rattle.dictionary_reading.specs.declared.fault.LookupFault.{LookupFault}
 use Rattle.dictionary_reading.specs.declared.fault.LookupFault.TheVariants as lookup
@@ -27,7 +24,7 @@ use Rattle.segment_file.specs.declared.part.Part.{Part}
 use Rattle.segment_file.specs.declared.part.Part.TheVariants as parts
 use Rattle.segment_file.specs.declared.section.Section.{Section}
 use Rattle.segment_file.specs.Columns.{kind_at}
-use Rattle.segment_head.specs.Heads.{HasCount, IsHead, IsPartOf, OfWhole, Seen, dictionary_section}
+use Rattle.segment_head.specs.Heads.{HasCount, OfWhole, Seen, dictionary_section}
 use Rattle.segment_head.specs.Calls.{IsColumnOf, ReadsPart}
 use Rattle.segment_head.specs.Lookups.{LogsDictionary, OfColumn, ReadsWhere}
 use Rattle.segment_head.proofs.Steps.{DictionaryThere, dictionary_slot, dictionary_there}

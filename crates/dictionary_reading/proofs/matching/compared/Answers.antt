@@ -1,4 +1,4 @@
-use Rattle.std.proofs.Common.{ℕ, length, subst, sym}
+use Rattle.std.proofs.Common.{ℕ, subst, sym}
 use Rattle.values.specs.declared.test.CompareOp.TheVariants as op
 use Rattle.value_ids.specs.Ids.{AreThose, is_outside, is_within}
 use Rattle.value_ids.proofs.MatchLemmas.{at_least_run, at_most_run, equal_run, less_run, more_run, unequal_run}

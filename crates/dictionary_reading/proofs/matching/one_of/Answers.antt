@@ -1,4 +1,3 @@
-use Rattle.std.proofs.Common.{length}
 use Rattle.value_ids.specs.Ids.{AreThose, negated_ids}
 use Rattle.value_ids.proofs.MatchLemmas.{if_ok}
 use Rattle.dictionary_reading.proofs.MatchedLemmas.{AreMembers, member_ids}

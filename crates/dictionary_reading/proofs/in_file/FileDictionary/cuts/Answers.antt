@@ -1,4 +1,4 @@
-use Rattle.std.proofs.Common.{◌≡◌, ◌∙◌, ◌+◌, ◌*◌, ℕ, List, [], ◌∷◌, ◌++◌, Option, length, arith, ap, subst, take}
+use Rattle.std.proofs.Common.{◌≡◌, ◌+◌, ◌*◌, ℕ, List, [], ◌∷◌, ◌++◌, Option, length, arith, ap, subst, take}
 use Rattle.std.proofs.lemmas.List.{length-append, take_all}
 use Rattle.outside.specs.Files.{Files}
 use Rattle.outside.specs.Seen.{Seen, seen}

@@ -1,4 +1,4 @@
-use Rattle.std.proofs.Common.{◌≡◌, ◌∙◌, List, length, subst, sym}
+use Rattle.std.proofs.Common.{◌≡◌, ◌∙◌, List, subst, sym}
 use Rattle.values.specs.declared.value.Value.{Value}
 use Rattle.value_ids.specs.Ids.{matching}
 use Rattle.value_ids.specs.declared.cuts.Cut.{Cut}

@@ -1,13 +1,9 @@
-use Rattle.std.proofs.Common.{◌≡◌, ◌+◌, ◌*◌, ℕ, ℤ, List, Vec, Global, length, map, arith}
+use Rattle.std.proofs.Common.{arith}
 use Rattle.outside.specs.Seen as outside
 use Rattle.outside.specs.Seen.{seen}
-use Rattle.values.specs.declared.value.Value.TheVariants as value
-use Rattle.value_ids.specs.Coding.{AreBelow, values_at}
-use Rattle.value_ids.specs.Ids.{Cuts, matching}
-use Rattle.dictionary_reading.specs.Bounds.{bounds_of}
+use Rattle.value_ids.specs.Ids.{Cuts}
 use Rattle.value_ids.specs.Dictionary.{Distinct}
 use Rattle.value_ids.specs.declared.cuts.Cut.{Cut}
-use Rattle.values.specs.declared.value.Value.{Value}
 use Rattle.segment_head.specs.Heads.{Seen}
 use Rattle.segment_head.specs.Lookups.{OfColumn}
 use Rattle.segment_head.proofs.LookupLemmas.{IsFaultOf, IsFound, lookup_err, lookup_logs, lookup_ok}

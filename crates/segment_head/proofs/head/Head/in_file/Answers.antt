@@ -1,4 +1,4 @@
-use Rattle.std.proofs.Common.{◌≡◌, ◌∙◌, ◌+◌, get_or, refl, sym, ap, subst, arith}
+use Rattle.std.proofs.Common.{◌≡◌, ◌∙◌, ◌+◌, get_or, refl, sym, ap, arith}
 use Rattle.outside.specs.Seen.{seen}
 use Rattle.outside.specs.declared.place.Place.{Place}
 use Rattle.outside.proofs.SeenLemmas.{reads_none}

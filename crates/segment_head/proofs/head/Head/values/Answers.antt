@@ -1,12 +1,8 @@
-use Rattle.std.proofs.Common.{◌≡◌, ◌+◌, ◌*◌, ℕ, ℤ, List, Vec, Global, length, map, arith}
+use Rattle.std.proofs.Common.{◌≡◌, ◌+◌, ◌*◌, Vec, Global, length, arith}
 use Rattle.outside.specs.Seen as outside
 use Rattle.outside.specs.Seen.{seen}
-use Rattle.values.specs.declared.value.Value.TheVariants as value
 use Rattle.value_ids.specs.Coding.{AreBelow, values_at}
-use Rattle.value_ids.specs.Ids.{Cuts, matching}
-use Rattle.dictionary_reading.specs.Bounds.{bounds_of}
 use Rattle.value_ids.specs.Dictionary.{Distinct}
-use Rattle.value_ids.specs.declared.cuts.Cut.{Cut}
 use Rattle.values.specs.declared.value.Value.{Value}
 use Rattle.segment_head.specs.Heads.{Seen}
 use Rattle.segment_head.specs.Lookups.{OfColumn}
