@@ -2,6 +2,7 @@ mod HeadLemmas
 pub mod Composed
 mod Openings
 mod Steps
+mod LookupLemmas
 mod TreeChecks
 mod TreeSteps
 pub mod ImageTrees

@@ -120,7 +120,7 @@ section_there table name file bytes whole head i s early at full part =
           ∙ sym (λ j. take (size j) (drop (offset j) bytes));
     }
 
-dictionary_there : (table : Table) (name file bytes : List ℕ) (whole head : Seen) (column : ℕ) (s : Section) → column < length table.schema.fields → slice_get head.sections (column + 1) ≡ Some s
+pub dictionary_there : (table : Table) (name file bytes : List ℕ) (whole head : Seen) (column : ℕ) (s : Section) → column < length table.schema.fields → slice_get head.sections (column + 1) ≡ Some s
     → IsHead table name file bytes whole → IsPartOf whole head → DictionaryThere table head.rows column file bytes whole s
 dictionary_there table name file bytes whole head column s field at full part =
     let front : Front = full.front in

@@ -4,3 +4,4 @@ pub mod Calls
 pub mod Laws
 pub mod Stored
 pub mod Faults
+pub mod Lookups

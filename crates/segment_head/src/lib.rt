@@ -8,6 +8,7 @@ mod fault;
 mod head;
 mod laws;
 mod loading;
+mod lookups;
 mod opening;
 mod stepwise;
 mod stored;

@@ -156,8 +156,8 @@ impl Head {
         self.dictionaries[column as usize] = Some(dictionary);
     }
 
-    // The section of the dictionary of a column.
-    fn dictionary_section(&self, column: u16) -> &Section
+    /// The section of the dictionary of a column.
+    pub(crate) fn dictionary_section(&self, column: u16) -> &Section
         requires { column + 1 < length self.now.sections }
         ensures { dictionary_section self.now column ≡ Some result.now }
     {

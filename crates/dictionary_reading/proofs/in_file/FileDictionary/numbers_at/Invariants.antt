@@ -1,0 +1,18 @@
+use Rattle.std.proofs.Common.{◌≡◌, ◌≤◌, ◌-◌, ◌*◌, length, map, take}
+use Rattle.outside.specs.Seen.{OnlyReads, seen}
+use Rattle.values.specs.declared.value.Value.TheVariants as value
+use Rattle.value_ids.specs.Coding.{values_at}
+use Rattle.dictionary_reading.specs.InFile.{LogsInside, OfDictionary}
+use Rattle.dictionary_reading.proofs.in_file.FileDictionary.numbers_at.Given as goal
+
+abbrev pub invariant-blocks-2 : goal.invariant-blocks-2
+invariant-blocks-2 g l = record {
+  reads : OnlyReads ⊥ (seen g.S.Shelf l.fn.shelf) (seen g.S.Shelf l.shelf);
+  within : l.done ≤ length l.ids;
+  count : length l.numbers.items ≡ l.done;
+  listed : OfDictionary l.self (g.S.Shelf.held l.fn.shelf) (λ d. map value.Whole l.numbers.items ≡ values_at d.values (take l.done l.ids));
+  log : LogsInside l.self.place (8192 * l.done) (g.S.Shelf.log l.fn.shelf) (g.S.Shelf.log l.shelf);
+}
+
+abbrev pub decreases-blocks-2 : goal.decreases-blocks-2
+decreases-blocks-2 g l = length l.ids - l.done
