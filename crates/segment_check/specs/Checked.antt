@@ -56,8 +56,8 @@ pub record FailsBytes (table : Table) (name bytes : List ℕ) (part : Part) : Ty
   pub differ : DifferAt (image 1 table name rows) bytes at
   pub part_is : part ≡ part_at (extents_of table name front) at
 
--- all rules of a head hold on the bytes, but they are not the image of the rows that they spell: the
--- part that is wrong
+-- all rules of a head hold on the bytes, but they are not the image of the rows that they spell:
+-- the part that is wrong
 abbrev pub FailsImageAt : Table → List ℕ → List ℕ → Part → Type 0
 FailsImageAt table name bytes part =
     ((column : ℕ) × (part ≡ parts.Forward column) × FailsIds table name bytes column)

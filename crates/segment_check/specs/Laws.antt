@@ -13,7 +13,8 @@ use Rattle.segment_check.specs.Checked.{FailsImageAt, IsNoImage}
 abbrev pub ImagesPass : Type 0
 ImagesPass =
     (table : Table) (name : List ℕ) (rows : List (List Value)) (part : Part) → IsValidTable table
-    → IsSegmentName name → CanHold table rows → ¬ IsNoImage table name (image 1 table name rows) part
+    → IsSegmentName name → CanHold table rows
+    → ¬ IsNoImage table name (image 1 table name rows) part
 
 -- what keeps the rules of heads fails none of them, and one part alone is wrong of it
 abbrev pub FailsOnce : Type 0

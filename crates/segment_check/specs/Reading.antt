@@ -91,7 +91,8 @@ pub record AreOfFields (table : Table) (t : ListedColumns) : Type 0 where
 
 -- the file is not the image of these rows: a star-tree of theirs is too large, or a byte of this
 -- part is the first that is another
-abbrev pub IsUnlike : Table → List ℕ → List ℕ → Option Files → Front → List (List Value) → Part → Type 0
+abbrev pub IsUnlike : Table → List ℕ → List ℕ → Option Files → Front → List (List Value) → Part
+    → Type 0
 IsUnlike table name file held front rows p =
     ((t : ℕ) × (p ≡ parts.Nodes t) × IsTooLarge table rows t)
     ⊎ (TreesFit table rows × OfBytes held file (λ bytes. (at : ℕ)

@@ -22,8 +22,8 @@ use std::alloc::Global;
 use table_schema::Table;
 use values::Columns;
 
-/// Compares a file with this front with the image of the rows of columns, of which it is to have the
-/// bytes from the first on.
+/// Compares a file with this front with the image of the rows of columns, of which it is to have
+/// the bytes from the first on.
 pub(crate) fn compare<S: Shelf>(
     alloc: Global,
     shelf: &mut S,

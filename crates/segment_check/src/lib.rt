@@ -1,5 +1,5 @@
-//! A segment's file is looked at whole: whether it is the image of some rows, and of which, or which
-//! part of it is wrong.
+//! A segment's file is looked at whole: whether it is the image of some rows, and of which, or
+//! which part of it is wrong.
 #![tactic(auto)]
 
 mod check;
