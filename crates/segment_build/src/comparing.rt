@@ -56,7 +56,7 @@ impl<S: Shelf> Taker<S> for Comparing {
 
     type Fault = CompareFault;
 
-    ghost takes = { λ bytes result old before new after. Compares bytes result old before new after };
+    ghost takes = { λ bytes result x before y after. Compares bytes result x before y after };
 
     fn take(&mut self, alloc: Global, shelf: &mut S, piece: &[u8]) -> Result<(), CompareFault> {
         if piece.len() as u64 > u64::MAX - self.at {

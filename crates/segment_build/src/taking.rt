@@ -12,6 +12,7 @@ pub const PIECE: usize = 65_536;
 /// there. Bytes that are taken after others are taken with them, and where one piece fails, so do
 /// all bytes that begin with those up to it.
 pub trait Taker<S: Shelf> {
+    /// Why a piece is not taken.
     type Fault: Drop;
 
     /// Bytes were taken, or not all of them: the outcome, and the taker and the device before and

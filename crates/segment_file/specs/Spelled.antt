@@ -1,5 +1,5 @@
--- The rows that a file spells: in each column the ids of its forward index, and of each id the value
--- in its dictionary.
+-- The rows that a file spells: in each column the ids of its forward index, and of each id the
+-- value in its dictionary.
 use Rattle.std.specs.Prelude.{◌≡◌, ℕ, pos, List, [], map, get_or, slice_index_or}
 use Rattle.std.specs.List.{All, find, range_with_len}
 use Rattle.std.specs.Option.{option_map_or}
@@ -46,7 +46,8 @@ ids_said table name bytes front dictionaries column =
 -- the values of the rows in a column
 abbrev pub column_said : Table → List ℕ → List ℕ → Front → List Distinct → ℕ → List Value
 column_said table name bytes front dictionaries column =
-    values_at (values_said dictionaries column) (ids_said table name bytes front dictionaries column)
+    values_at (values_said dictionaries column)
+    (ids_said table name bytes front dictionaries column)
 
 -- the rows: of each column the value at the row's place
 abbrev pub rows_said : Table → List ℕ → List ℕ → Front → List Distinct → List (List Value)

@@ -1,0 +1,22 @@
+use Rattle.std.proofs.Common.{◌≡◌, ◌≤◌, length, ap, arith, inl, refl}
+use Rattle.segment_file.specs.declared.part.Part.TheVariants as parts
+use Rattle.segment_file.proofs.Counts.{few_sections}
+use Rattle.segment_build.specs.Made.{file_bytes}
+use Rattle.segment_check.proofs.Sameness.{image_small}
+use Rattle.segment_check.proofs.compare.compare.Goals as goal
+
+pub first_difference-requires : goal.first_difference-requires
+first_difference-requires g c =
+    image_small c.args.table.now c.args.name.now c.args.columns.now (file_bytes c.in-Ok.made) c.requires.asked.valid c.requires.asked.name c.requires.fields c.in-Ok.ensures.built.fits c.in-Ok.ensures.image
+
+pub returns-in-Err-TooLarge-clause-refused : goal.returns-in-Err-TooLarge-clause-refused
+returns-in-Err-TooLarge-clause-refused g c = λ p is.
+    let fails = c.in-Err-TooLarge in
+    let own = rw fails.field-0-is at fails.ensures in
+    let named : p ≡ parts.Nodes fails.tree = cc (is, fails.tree-is) in
+    inl (fails.tree, named, own.built.too_large fails.tree refl)
+
+pub front_size-start-requires-clause-sections : goal.front_size-start-requires-clause-sections
+front_size-start-requires-clause-sections g c =
+    let few = few_sections c.args.table.now c.requires.asked.valid in
+    omega (arith, few, ap length c.deref.ensures.value, ap length c.requires.read.is.parts_are)

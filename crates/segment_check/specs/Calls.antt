@@ -1,0 +1,25 @@
+-- What the calls that look at a whole file answer, are refused by and read.
+use Rattle.std.specs.Prelude.{◌≡◌, ℕ, List, Option, Some, Result, IfErr, IfOk, IfSome, IsErrOf}
+use Rattle.outside.specs.Files.{Files, bytes_of}
+use Rattle.outside.specs.Seen.{OnlyReads, Seen}
+use Rattle.values.specs.declared.value.Value.{Value}
+use Rattle.table_schema.specs.ValidTable.{AreRows}
+use Rattle.table_schema.specs.declared.table.Table.{Table}
+use Rattle.segment_file.specs.declared.fault.HeadFault.{HeadFault}
+use Rattle.segment_file.specs.declared.fault.HeadFault.TheVariants.{NotASegment, ReadFault}
+use Rattle.segment_file.specs.declared.part.Part.{Part}
+use Rattle.segment_check.specs.Checked.{IsImageOf, IsNoImage}
+
+-- where files are told, this one has bytes with P; one that is missing has none
+abbrev pub OfBytes : Option Files → List ℕ → (List ℕ → Type 0) → Type 0
+OfBytes held file P = IfSome held (λ files. P (bytes_of (Some files) file))
+
+-- a file was looked at whole: it is the image of the rows that are answered, or of none
+pub record ChecksImage {A : Type 0} (rows_in : A → List (List Value)) (table : Table)
+    (name file : List ℕ) (old new : Seen) (result : Result A HeadFault) : Type 0 where
+  pub rows : IfOk result (λ a. AreRows table.schema.fields (rows_in a))
+  pub image : IfOk result (λ a. OfBytes old.held file (λ bytes.
+      IsImageOf table name bytes (rows_in a)))
+  pub refused : IfErr result (λ fault. (p : Part) → fault ≡ NotASegment p
+      → OfBytes old.held file (λ bytes. IsNoImage table name bytes p))
+  pub only_reads : OnlyReads (IsErrOf result ReadFault) old new

@@ -1,0 +1,59 @@
+//! A file is checked: whether it is the image of some rows.
+ghost use Rattle.outside.specs.Seen.{seen};
+ghost use Rattle.values.specs.Columns.{rows_of};
+ghost use Rattle.segment_file.specs.Names.{IsSegmentOf};
+ghost use Rattle.segment_check.specs.Calls.{ChecksImage};
+
+use crate::columns::read_columns;
+use crate::compare::compare;
+use crate::head::read_file_head;
+use outside::Shelf;
+use segment_file::HeadFault;
+use std::alloc::Global;
+use table_schema::Table;
+use values::{Columns, Rows};
+
+/// The rows of which a file is the image under a table and a name, column by column, or the part
+/// that is wrong. No byte of the file is read more than twice.
+pub fn check_columns<S: Shelf>(
+    alloc: Global,
+    shelf: &mut S,
+    file: &str,
+    name: &str,
+    table: &Table,
+) -> Result<Columns, HeadFault>
+    requires { IsSegmentOf table.now name.now }
+    ensures { ChecksImage rows_of table.now name.now file.now
+        (seen S.Shelf shelf.old) (seen S.Shelf shelf.new) result }
+{
+    let read = match read_file_head(alloc, shelf, file, name, table) {
+        Ok(read) => read,
+        Err(fault) => return Err(fault),
+    };
+    let columns = match read_columns(alloc, shelf, table, name, &read) {
+        Ok(columns) => columns,
+        Err(fault) => return Err(fault),
+    };
+    match compare(alloc, shelf, file, name, table, &read, &columns) {
+        Ok(()) => Ok(columns),
+        Err(fault) => Err(fault),
+    }
+}
+
+/// The same, as one list of values a row.
+pub fn check_image<S: Shelf>(
+    alloc: Global,
+    shelf: &mut S,
+    file: &str,
+    name: &str,
+    table: &Table,
+) -> Result<Rows, HeadFault>
+    requires { IsSegmentOf table.now name.now }
+    ensures { ChecksImage (λ rows. rows) table.now name.now file.now
+        (seen S.Shelf shelf.old) (seen S.Shelf shelf.new) result }
+{
+    match check_columns(alloc, shelf, file, name, table) {
+        Ok(columns) => Ok(columns.rows(alloc)?),
+        Err(fault) => Err(fault),
+    }
+}

@@ -1,0 +1,127 @@
+//! The columns of a file are read: the ids of its forward indexes, and the values of these.
+ghost use Rattle.std.specs.Prelude.{◌≡◌, ◌++◌, ◌∷◌, [], ℕ, IfErr, IfOk, IfSome, IsErrOf, IsSome, OnOk, length, slice_get, Some};
+ghost use Rattle.outside.specs.Seen.{OnlyReads, seen};
+ghost use Rattle.value_ids.specs.Coding.{AreBelow, values_at};
+ghost use Rattle.value_ids.specs.Dictionary.{Distinct, IsDictionary};
+ghost use Rattle.values.specs.Kinds.{is_of};
+ghost use Rattle.segment_file.specs.declared.fault.HeadFault.TheVariants.{NotASegment};
+ghost use Rattle.segment_file.specs.declared.part.Part.{Part};
+ghost use Rattle.segment_file.specs.declared.part.Part.TheVariants as part;
+ghost use Rattle.segment_head.specs.Heads.{IsLoaded, place_in};
+ghost use Rattle.segment_check.specs.Reading.{AreColumns, AreOfFields, FailsColumn, HasIdsOf, IsColumn, IsSomeHead};
+
+use crate::head::FileHead;
+use bit_column::{ColumnFault, read_range, width_for};
+use data_types::FieldKind;
+use dictionary::Dictionary;
+use outside::{NoMemory, Shelf};
+use segment_file::{HeadFault, Part};
+use segment_head::Head;
+use std::alloc::Global;
+use table_schema::Table;
+use values::{Column, Columns, Value};
+
+/// The columns of the rows of a file with this head, or the first whose forward index has no id of
+/// one of its values for each row.
+pub(crate) fn read_columns<S: Shelf>(
+    alloc: Global,
+    shelf: &mut S,
+    table: &Table,
+    name: &str,
+    read: &FileHead,
+) -> Result<Columns, HeadFault>
+    requires { IsSomeHead table.now name.now read.now }
+    ensures fields { IfOk result (AreOfFields table.now) }
+    ensures count { IfOk result (λ t. t.count ≡ read.now.head.rows) }
+    ensures columns { IfOk result (λ t. AreColumns (S.held shelf.old) read.now.head
+        (length table.now.schema.fields) t.columns) }
+    ensures refused { IfErr result (λ fault. (p : Part) → fault ≡ NotASegment p →
+        (column : ℕ) × (p ≡ part.Forward column)
+        × FailsColumn table.now (S.held shelf.old) read.now.head column) }
+    ensures only_reads { OnlyReads (IsErrOf result HeadFault.ReadFault)
+        (seen S.Shelf shelf.old) (seen S.Shelf shelf.new) }
+{
+    let fields = table.schema.fields.as_slice();
+    let mut columns = Vec::with_capacity(alloc, fields.len())?;
+    'columns: for at in 0..fields.len() {
+        match read_column(alloc, shelf, fields[at].kind, &read.head, at as u16) {
+            Ok(column) => keep(column, &mut columns)?,
+            Err(fault) => return Err(fault),
+        }
+    }
+    Ok(Columns::new(columns, read.head.rows() as usize))
+}
+
+fn keep(column: Column, columns: &mut Vec<Column>) -> Result<(), NoMemory>
+    ensures { OnOk result (columns.new.items ≡ columns.old.items ++ column ∷ []) }
+{
+    columns.push(column)?;
+    Ok(())
+}
+
+// The values of the rows in a column.
+fn read_column<S: Shelf>(
+    alloc: Global,
+    shelf: &mut S,
+    kind: FieldKind,
+    head: &Head,
+    column: u16,
+) -> Result<Column, HeadFault>
+    requires loaded { IsLoaded head.now column }
+    requires placed { IsSome (place_in head.now.sections (part.Forward column)) }
+    requires kind { (d : Distinct) → slice_get head.now.dictionaries column ≡ Some (Some d)
+        → d.kind ≡ kind }
+    ensures column { IfOk result (λ c. (d : Distinct)
+        → slice_get head.now.dictionaries column ≡ Some (Some d)
+        → IsColumn (S.held shelf.old) head.now column d c.values) }
+    ensures refused { IfErr result (λ fault. (p : Part) → fault ≡ NotASegment p →
+        (p ≡ part.Forward column) × ((d : Distinct)
+        → slice_get head.now.dictionaries column ≡ Some (Some d)
+        → IfSome (S.held shelf.old) (λ files.
+        ¬ HasIdsOf files head.now column (length d.values)))) }
+    ensures only_reads { OnlyReads (IsErrOf result HeadFault.ReadFault)
+        (seen S.Shelf shelf.old) (seen S.Shelf shelf.new) }
+{
+    let Some(place) = head.place(Part::Forward(column)) else {
+        unreachable!();
+    };
+    let dictionary = head.dictionary(column);
+    let count = dictionary.count();
+    let width = width_for(count);
+    match read_range(alloc, shelf, place, width, count, 0, head.rows()) {
+        Ok(ids) => Ok(column_of(alloc, kind, dictionary, ids.as_slice())?),
+        Err(ColumnFault::BadId) => Err(HeadFault::NotASegment(Part::Forward(column))),
+        Err(ColumnFault::ReadFault) => Err(HeadFault::ReadFault),
+        Err(ColumnFault::NoMemory) => Err(HeadFault::NoMemory),
+    }
+}
+
+// The values of these ids, as a column.
+fn column_of(
+    alloc: Global,
+    kind: FieldKind,
+    dictionary: &Dictionary,
+    ids: &[u32],
+) -> Result<Column, NoMemory>
+    requires kind { dictionary.now.kind ≡ kind }
+    requires stands { IsDictionary dictionary.now }
+    requires below { AreBelow (length dictionary.now.values) ids.now }
+    ensures { IfOk result (λ c. c.values ≡ values_at dictionary.now.values ids.now) }
+{
+    let mut column = empty_column(alloc, kind);
+    column.reserve(ids.len())?;
+    'ids: for id in ids {
+        column.push(dictionary.value_at(*id))?;
+    }
+    Ok(column)
+}
+
+// A column of the kind without any values yet.
+fn empty_column(alloc: Global, kind: FieldKind) -> Column
+    ensures { result ≡ record { are_texts = is_of kind (Value.Text []); values = [] } }
+{
+    match kind {
+        FieldKind::Int | FieldKind::Long => Column::numbers(alloc),
+        FieldKind::Text => Column::texts(alloc),
+    }
+}

@@ -1,0 +1,106 @@
+//! A file is compared with the image of rows.
+ghost use Rattle.std.specs.Prelude.{◌≡◌, ◌<◌, ◌+◌, ◌^◌, IfErr, IfOk, IsErrOf, MatchOption, OnOk, length, sum, take};
+ghost use Rattle.outside.specs.Seen.{OnlyReads, seen};
+ghost use Rattle.values.specs.Columns.{rows_of};
+ghost use Rattle.segment_file.specs.declared.fault.HeadFault.TheVariants.{NotASegment};
+ghost use Rattle.segment_file.specs.declared.part.Part.{Part};
+ghost use Rattle.segment_file.specs.Front.{extents_from};
+ghost use Rattle.segment_file.specs.Image.{image};
+ghost use Rattle.segment_file.specs.Names.{IsSegmentOf};
+ghost use Rattle.segment_build.specs.Compared.{DifferAt};
+ghost use Rattle.segment_build.specs.Growing.{TreesFit};
+ghost use Rattle.segment_build.specs.Made.{file_bytes};
+ghost use Rattle.segment_check.specs.Calls.{OfBytes};
+ghost use Rattle.segment_check.specs.Checked as spec;
+ghost use Rattle.segment_check.specs.Reading.{AreOfFields, IsSomeHead, IsUnlike};
+
+use crate::head::FileHead;
+use outside::Shelf;
+use segment_build::{BuildFault, CompareFault, Comparing, MadeFile, make_file};
+use segment_file::{HeadFault, Part, front_size};
+use std::alloc::Global;
+use table_schema::Table;
+use values::Columns;
+
+/// Compares a file with this front with the image of the rows of columns, of which it is to have
+/// the bytes from the first on.
+pub(crate) fn compare<S: Shelf>(
+    alloc: Global,
+    shelf: &mut S,
+    file: &str,
+    name: &str,
+    table: &Table,
+    read: &FileHead,
+    columns: &Columns,
+) -> Result<(), HeadFault>
+    requires asked { IsSegmentOf table.now name.now }
+    requires read { IsSomeHead table.now name.now read.now }
+    requires fields { AreOfFields table.now columns.now }
+    ensures fits { OnOk result (TreesFit table.now (rows_of columns.now)) }
+    ensures same { OnOk result (OfBytes (S.held shelf.old) file.now (λ bytes.
+        take (length (image 1 table.now name.now (rows_of columns.now))) bytes
+        ≡ image 1 table.now name.now (rows_of columns.now))) }
+    ensures refused { IfErr result (λ fault. (p : Part) → fault ≡ NotASegment p →
+        IsUnlike table.now name.now file.now (S.held shelf.old) read.now.front
+        (rows_of columns.now) p) }
+    ensures only_reads { OnlyReads (IsErrOf result HeadFault.ReadFault)
+        (seen S.Shelf shelf.old) (seen S.Shelf shelf.new) }
+{
+    let made = match make_file(alloc, table, name, columns) {
+        Ok(made) => made,
+        Err(BuildFault::TooLarge(tree)) => return Err(HeadFault::NotASegment(Part::Nodes(tree))),
+        Err(BuildFault::NoMemory) => return Err(HeadFault::NoMemory),
+        Err(BuildFault::WriteFault) => unreachable!(),
+    };
+    match first_difference(alloc, shelf, file, made) {
+        Ok(None) => Ok(()),
+        Ok(Some(at)) => {
+            let start = front_size(name, &read.parts) as u64;
+            let part = part_at(&read.parts, read.front.sizes(), start, at);
+            Err(HeadFault::NotASegment(part))
+        }
+        Err(fault) => Err(fault),
+    }
+}
+
+// The place of the first byte of a file that is another than in the one that was made, if some is.
+fn first_difference<S: Shelf>(
+    alloc: Global,
+    shelf: &mut S,
+    file: &str,
+    made: MadeFile,
+) -> Result<Option<u64>, HeadFault>
+    requires { length (file_bytes made) < 2 ^ 64 }
+    ensures place { IfOk result (λ place. OfBytes (S.held shelf.old) file.now (λ bytes.
+        MatchOption place
+        (take (length (file_bytes made)) bytes ≡ file_bytes made)
+        (DifferAt (file_bytes made) bytes))) }
+    ensures never { IfErr result (λ fault. (p : Part) → ¬ (fault ≡ NotASegment p)) }
+    ensures only_reads { OnlyReads (IsErrOf result HeadFault.ReadFault)
+        (seen S.Shelf shelf.old) (seen S.Shelf shelf.new) }
+{
+    let mut comparing = Comparing::with_file(alloc, file)?;
+    match made.give(alloc, &mut comparing, shelf) {
+        Ok(()) => Ok(None),
+        Err(CompareFault::Differs) => Ok(Some(comparing.at())),
+        Err(CompareFault::Failed) => Err(HeadFault::ReadFault),
+        Err(CompareFault::NoMemory) => Err(HeadFault::NoMemory),
+    }
+}
+
+// The section that a byte is in, of those that begin at a place, and the head for one before them.
+fn part_at(parts: &[Part], sizes: &[u64], start: u64, at: u64) -> Part
+    requires each { length sizes.now ≡ length parts.now }
+    requires short { start + sum sizes.now < 2 ^ 64 }
+    ensures { result ≡ spec.part_at (extents_from start parts.now sizes.now) at }
+{
+    let mut offset = start;
+    'parts: for number in 0..parts.len() {
+        let end = offset + sizes[number];
+        if offset <= at && at < end {
+            return parts[number];
+        }
+        offset = end;
+    }
+    Part::Head
+}

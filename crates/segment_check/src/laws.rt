@@ -1,0 +1,13 @@
+//! Laws of files that are images, and of those that are none. Each is the contract of a function
+//! that does nothing.
+ghost use Rattle.segment_check.specs.Laws.{FailsOnce, ImagesPass};
+
+/// No part of the image of rows that a segment may have is wrong.
+pub fn images_pass_law()
+    ensures { ImagesPass }
+{}
+
+/// Of a file that keeps the rules of heads and is no image one part is wrong, and no more.
+pub fn fails_once_law()
+    ensures { FailsOnce }
+{}

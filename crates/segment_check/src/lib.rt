@@ -1,0 +1,12 @@
+//! A segment's file is looked at whole: whether it is the image of some rows, and of which, or
+//! which part of it is wrong.
+#![tactic(auto)]
+
+mod check;
+mod columns;
+mod compare;
+mod head;
+mod laws;
+
+pub use check::{check_columns, check_image};
+pub use laws::{fails_once_law, images_pass_law};
