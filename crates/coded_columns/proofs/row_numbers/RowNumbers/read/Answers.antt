@@ -1,0 +1,1 @@
+use Rattle.coded_columns.proofs.row_numbers.RowNumbers.read.Goals as goal
