@@ -1,10 +1,9 @@
 -- What is kept of rows by their keys, with more rows.
-use Rattle.std.proofs.Common.{◌≡◌, ◌≢◌, ◌∙◌, ◌<◌, ◌≤◌, ◌+◌, ◌-◌, ◌+ℤ◌, ◌++◌, ◌∷◌, ◌==◌, ◌⊎◌, [], ℕ, ℤ, pos, zero, suc, List, length, map, get_or, set, take, drop, refl, ap, sym, subst, arith, inl, inr, count_by}
+use Rattle.std.proofs.Common.{◌≡◌, ◌≢◌, ◌∙◌, ◌<◌, ◌≤◌, ◌+◌, ◌-◌, ◌+ℤ◌, ◌++◌, ◌∷◌, ◌==◌, ◌⊎◌, [], ℕ, ℤ, pos, zero, suc, List, length, map, get_or, set, refl, ap, sym, subst, arith, inl, inr, count_by}
 use Rattle.std.specs.List.{All}
 use Rattle.std.proofs.lemmas.Bool.{cases_lt, cond-false, ne_eqb}
 use Rattle.std.proofs.lemmas.List.{get_or-append_right, get_or-map, get_or-set_other, get_or-set_same, get_or_append_left, get_or_default, get_or_push, length-append, length-map, map-append}
 use Rattle.values.specs.declared.value.Value.{Value}
-use Rattle.values.specs.declared.value.Value.TheVariants.{Whole}
 use Rattle.values.specs.Columns.{row_of}
 use Rattle.value_ids.specs.Coding.{AreBelow}
 use Rattle.agg_laws.specs.declared.aggregate_kind.AggKind.{AggKind}
@@ -24,7 +23,7 @@ use Rattle.coded_columns.specs.declared.placed_rows.PlacedRows.{PlacedRows}
 use Rattle.coded_columns.specs.declared.keyed_rows.KeyedRows.{KeyedRows}
 use Rattle.coded_columns.specs.declared.key_states.KeyStates.{KeyStates}
 use Rattle.coded_columns.specs.Coded.{most_rows, table_of}
-use Rattle.coded_columns.specs.Keyed.{AddsAgg, AddsNumbers, AddsPlaces, AllAdd, AllFit, AreKeyed, HasFirst, HoldAggs, HoldsAgg, HoldsPacked, HoldsRows, IsFirst, SetsFirst, TakeKeys, TakesKeys, TakesRows, kind_in, rows_in, size_in, state_in}
+use Rattle.coded_columns.specs.Keyed.{AddsAgg, AddsNumbers, AddsPlaces, AllAdd, AllFit, HasFirst, HoldAggs, HoldsAgg, HoldsPacked, HoldsRows, IsFirst, SetsFirst, TakeKeys, TakesKeys, TakesRows, kind_in, rows_in, size_in, state_in}
 use Rattle.coded_columns.specs.Keys.{AreKeys, key_at}
 use Rattle.coded_columns.specs.Slots.{AreSlots, MoreStates, in_slot}
 use Rattle.coded_columns.specs.declared.key_states.KeyStates.TheVariants.{Others}

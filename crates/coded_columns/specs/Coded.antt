@@ -6,8 +6,6 @@ use Rattle.values.specs.declared.value.Value.TheVariants.{Whole}
 use Rattle.values.specs.Columns.{Listed, ListedColumns, is_text, row_of}
 use Rattle.value_ids.specs.Coding.{values_at}
 use Rattle.table_schema.specs.Conditions.{cell}
-use Rattle.table_schema.specs.declared.query.Agg.{Agg}
-use Rattle.group_table.specs.Groups.{number_for, number_of}
 use Rattle.coded_columns.specs.declared.coded.Coded.{Coded}
 use Rattle.coded_columns.specs.declared.coded.SegmentColumns.{SegmentColumns}
 use Rattle.coded_columns.specs.IdColumns.{HasIds}

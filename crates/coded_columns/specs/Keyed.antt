@@ -1,9 +1,9 @@
 -- What is kept of rows by their keys: for each key a row that has it, and the aggregates.
-use Rattle.std.specs.Prelude.{◌≡◌, ◌≢◌, ◌⊎◌, ◌<◌, ◌≤◌, ◌+◌, ◌-◌, ◌++◌, ℕ, ℤ, pos, List, [], Option, Some, length, get_or, map}
+use Rattle.std.specs.Prelude.{◌≡◌, ◌≢◌, ◌⊎◌, ◌<◌, ◌≤◌, ◌+◌, ◌-◌, ◌++◌, ℕ, ℤ, pos, List, Option, Some, length, get_or, map}
 use Rattle.std.specs.List.{All}
 use Rattle.std.specs.Option.{option_map_or}
 use Rattle.values.specs.declared.value.Value.{Value}
-use Rattle.values.specs.Columns.{Listed, row_of}
+use Rattle.values.specs.Columns.{row_of}
 use Rattle.agg_laws.specs.Numbers.{AreWhole}
 use Rattle.agg_laws.specs.States.{Fits, state_of}
 use Rattle.agg_laws.specs.declared.aggregate_kind.AggKind.{AggKind}

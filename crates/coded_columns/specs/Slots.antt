@@ -1,11 +1,10 @@
 -- Rows in slots: those of one key have one slot.
-use Rattle.std.specs.Prelude.{◌≡◌, ◌≢◌, ◌⊎◌, ◌≤◌, ◌<◌, ◌+◌, ◌*◌, ◌++◌, ℕ, ℤ, pos, Option, Some, None, List, [], ◌∷◌, length, get_or, nat_lt, if◌then◌else◌, ◌==◌}
+use Rattle.std.specs.Prelude.{◌≡◌, ◌≢◌, ◌⊎◌, ◌≤◌, ◌<◌, ◌+◌, ◌*◌, ◌++◌, ℕ, ℤ, Option, Some, None, List, [], ◌∷◌, length, get_or, nat_lt, if◌then◌else◌, ◌==◌}
 use Rattle.values.specs.Columns.{Listed, row_of}
 use Rattle.value_ids.specs.Coding.{AreBelow}
 use Rattle.coded_columns.specs.Coded.{most_rows}
 use Rattle.group_table.specs.Groups.{key_of}
 use Rattle.state_columns.specs.Columns.{Column, state_at}
-use Rattle.agg_laws.specs.declared.aggregate_kind.AggKind.{AggKind}
 use Rattle.agg_laws.specs.States.{state_of}
 
 -- those of a list that have this slot

@@ -1,4 +1,4 @@
-use Rattle.std.proofs.Common.{◌≡◌, ◌∙◌, ◌<◌, ℕ, length, sym, subst, arith, rules}
+use Rattle.std.proofs.Common.{◌∙◌, ◌<◌, ℕ, length, sym, subst, arith, rules}
 use Rattle.std.proofs.Math.ListN.{length-set}
 use Rattle.coded_columns.specs.Keyed.{TakesKeys, rows_in}
 use Rattle.coded_columns.proofs.KeyedSteps.{all-next, rest-next}

@@ -1,4 +1,4 @@
-use Rattle.std.proofs.Common.{◌≡◌, ◌∙◌, [], List, get_or, length, ap, sym, arith, subst}
+use Rattle.std.proofs.Common.{◌∙◌, [], List, get_or, length, ap, sym, arith, subst}
 use Rattle.std.proofs.lemmas.List.{length_push}
 use Rattle.coded_columns.specs.Keyed.{HoldsAgg}
 use Rattle.coded_columns.specs.declared.key_states.KeyStates.{KeyStates}

@@ -1,4 +1,4 @@
-use Rattle.std.proofs.Common.{◌∙◌, pos, ap, Some, arith}
+use Rattle.std.proofs.Common.{ap, Some, arith}
 use Rattle.group_table.specs.Groups.{number_of}
 use Rattle.coded_columns.proofs.NumberSteps.{numbers-coded, numbers-zero}
 use Rattle.coded_columns.proofs.row_numbers.put_field.Goals as goal

@@ -1,4 +1,4 @@
-use Rattle.std.proofs.Common.{ℕ, Option, List, None, refl, sym, subst, arith}
+use Rattle.std.proofs.Common.{ℕ, Option, None, refl, sym, subst, arith}
 use Rattle.coded_columns.specs.Keyed.{AreNumbersIn, rows_in}
 use Rattle.coded_columns.proofs.NumberSteps.{numbers-zero}
 use Rattle.coded_columns.proofs.row_numbers.put_numbers.Goals as goal
