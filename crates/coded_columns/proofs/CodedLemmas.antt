@@ -16,19 +16,20 @@ use Rattle.value_ids.specs.Ids.{has_id, satisfies}
 use Rattle.table_schema.specs.Conditions.{cell}
 use Rattle.coded_columns.specs.declared.coded.Coded.{Coded}
 use Rattle.coded_columns.specs.declared.coded.SegmentColumns.{SegmentColumns}
-use Rattle.coded_columns.specs.Coded.{Widens, AreCoded, IsCoded, IsOfField, IsUnread, column_of, listed, table_of, values_of}
+use Rattle.coded_columns.specs.Coded.{Widens, IsOfField, IsUnread, column_of, listed, table_of, values_of}
+use Rattle.coded_columns.specs.IdColumns.{IsCoded}
 
 length-values : (count : ℕ) (column : Option Coded) → IsCoded count column → length (values_of count column) ≡ count
 length-values count None h = length-replicate count (Whole (pos 0))
-length-values count (Some column) h = length-map column.ids.now (λ id. get_or column.dictionary.now.values id (Whole (pos 0))) ∙ h.0
+length-values count (Some column) h = length-map column.ids.now (λ id. get_or column.dictionary.now.values id (Whole (pos 0))) ∙ (h column refl).count
 
 -- each column has a value for each row
 all-counts : (count : ℕ) (columns : List (Option Coded)) → All (IsCoded count) columns → All (Counts count) (map (listed count) columns)
 all-counts count [] all = All-nil (Counts count)
 all-counts count (c ∷ cs) all = All-cons (Counts count) (listed count c) (map (listed count) cs) (length-values count c (All-head (IsCoded count) c cs all)) (all-counts count cs (All-tail (IsCoded count) c cs all))
 
-pub counts : (segment : SegmentColumns) → AreCoded segment → All (Counts segment.count) (table_of segment).columns
-counts segment coded = all-counts segment.count segment.columns.now coded.each
+pub counts : (segment : SegmentColumns) → All (Counts segment.count) (table_of segment).columns
+counts segment = all-counts segment.count segment.columns.now segment.coded.each
 
 -- ---- a field
 
@@ -49,7 +50,7 @@ of-column count (c ∷ cs) zero at = refl
 of-column count (c ∷ cs) (suc field) at = of-column count cs field at
 
 coded-at : (count : ℕ) (columns : List (Option Coded)) (field : ℕ) → All (IsCoded count) columns → IsCoded count (get_or columns field None)
-coded-at count [] field all = tt
+coded-at count [] field all = λ column is. absurd cc
 coded-at count (c ∷ cs) zero all = All-head (IsCoded count) c cs all
 coded-at count (c ∷ cs) (suc field) all = coded-at count cs field (All-tail (IsCoded count) c cs all)
 
@@ -57,15 +58,14 @@ looked-by : (segment : SegmentColumns) (field : ℕ) (column : Option Coded) →
 looked-by segment field None is coded = λ at.
     of-column segment.count segment.columns.now field at ∙ ap (λ c. get_or (values_of segment.count c) at (Whole (pos 0))) is ∙ zeros segment.count at
 looked-by segment field (Some column) is coded = record {
-  count = coded.0;
-  below = coded.1;
+  ids = coded column refl;
   each = λ at lt. of-column segment.count segment.columns.now field at ∙ ap (λ c. get_or (values_of segment.count c) at (Whole (pos 0))) is
-      ∙ get_or-ids column.dictionary.now.values column.ids.now at (omega (arith, lt, coded.0));
+      ∙ get_or-ids column.dictionary.now.values column.ids.now at (omega (arith, lt, (coded column refl).count));
 }
 
 -- the column of a field has its values
-pub looked : (segment : SegmentColumns) (field : ℕ) → AreCoded segment → MatchOption (column_of segment field) (IsUnread segment field) (IsOfField segment field)
-looked segment field coded = looked-by segment field (column_of segment field) refl (coded-at segment.count segment.columns.now field coded.each)
+pub looked : (segment : SegmentColumns) (field : ℕ) → MatchOption (column_of segment field) (IsUnread segment field) (IsOfField segment field)
+looked segment field = looked-by segment field (column_of segment field) refl (coded-at segment.count segment.columns.now field segment.coded.each)
 
 -- ---- marks that are added
 
@@ -109,7 +109,7 @@ pub tested-at : (segment : SegmentColumns) (field : ℕ) (column : Coded) (test 
     → has_id ids (get_or column.ids.now at 0) ≡ holds (cell (row_of (table_of segment).columns at) field) test
 tested-at segment field column test ids at lt of each =
     let id = get_or column.ids.now at 0 in
-    let below : id < length column.dictionary.now.values = of.below at 0 (omega (arith, lt, of.count)) in
+    let below : id < length column.dictionary.now.values = of.ids.below at 0 (omega (arith, lt, of.ids.count)) in
     each id ∙ got column.dictionary.now.values id test below ∙ ap (λ v. holds v test) (sym (of.each at lt))
 
 -- one place more, where it is marked

@@ -56,7 +56,7 @@ module _ (segment : SegmentColumns) where
   keys-more groups group column size more keys found of is le =
       let width : ℕ = length column.dictionary.now.values in
       let id = λ (at : ℕ). get_or column.ids.now at 0 in
-      let id_lt : (at : ℕ) → at < segment.count → id at < width = λ at lt. of.below at 0 (omega (arith, lt, of.count)) in
+      let id_lt : (at : ℕ) → at < segment.count → id at < width = λ at lt. of.ids.below at 0 (omega (arith, lt, of.ids.count)) in
       let key_is : (at : ℕ) → key_at segment (groups ++ group ∷ []) at ≡ key_at segment groups at * width + id at =
       λ at. key-push groups group at ∙ ap (λ o. packed_with o (key_at segment groups at) at) found in
       let all : (at : ℕ) → at < segment.count → key_at segment (groups ++ group ∷ []) at < more =

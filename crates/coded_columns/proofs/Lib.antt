@@ -2,5 +2,6 @@ pub mod CodedLemmas
 pub mod RankSteps
 pub mod SlotLemmas
 pub mod FoldSteps
+pub mod NumberSteps
 pub mod KeySteps
 pub mod KeyedSteps

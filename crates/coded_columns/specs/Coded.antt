@@ -1,19 +1,15 @@
 -- The columns of a segment by the ids of their values, and the rows that they are.
-use Rattle.std.specs.Prelude.{◌≡◌, ◌≤◌, ◌<◌, ◌||◌, ℕ, Bool, false, pos, List, map, length, get_or, replicate, Option, Some, None}
-use Rattle.std.specs.List.{All, list_any}
+use Rattle.std.specs.Prelude.{◌≡◌, ◌<◌, ◌||◌, ℕ, Bool, false, pos, List, map, length, get_or, replicate, Option, Some, None}
+use Rattle.std.specs.List.{list_any}
 use Rattle.values.specs.declared.value.Value.{Value}
 use Rattle.values.specs.declared.value.Value.TheVariants.{Whole}
 use Rattle.values.specs.Columns.{Listed, ListedColumns, is_text, row_of}
-use Rattle.value_ids.specs.Coding.{AreBelow, values_at}
+use Rattle.value_ids.specs.Coding.{values_at}
 use Rattle.table_schema.specs.Conditions.{cell}
-use Rattle.table_schema.specs.declared.query.Agg.{Agg}
-use Rattle.group_table.specs.Groups.{number_for, number_of}
 use Rattle.coded_columns.specs.declared.coded.Coded.{Coded}
 use Rattle.coded_columns.specs.declared.coded.SegmentColumns.{SegmentColumns}
-
--- a segment has at most so many rows
-abbrev pub most_rows : ℕ
-most_rows = 1048576
+use Rattle.coded_columns.specs.IdColumns.{HasIds}
+pub use Rattle.coded_columns.specs.IdColumns.{most_rows}
 
 -- the value of a row in a column
 abbrev pub value_in : Coded → ℕ → Value
@@ -43,21 +39,9 @@ table_of segment = record {
 abbrev pub column_of : SegmentColumns → ℕ → Option Coded
 column_of segment field = get_or segment.columns.now field None
 
--- an id for each row, and a value for each id
-abbrev pub IsCoded : ℕ → Option Coded → Type 0
-IsCoded count None = Unit {0}
-IsCoded count (Some column) =
-    (length column.ids.now ≡ count) × AreBelow (length column.dictionary.now.values) column.ids.now
-
--- columns of so many rows, each with its ids
-pub record AreCoded (segment : SegmentColumns) : Type 0 where
-  pub at_most : segment.count ≤ most_rows
-  pub each : All (IsCoded segment.count) segment.columns.now
-
 -- the column has the values of a field, row by row
 pub record IsOfField (segment : SegmentColumns) (field : ℕ) (column : Coded) : Type 0 where
-  pub count : length column.ids.now ≡ segment.count
-  pub below : AreBelow (length column.dictionary.now.values) column.ids.now
+  pub ids : HasIds segment.count column
   pub each : (at : ℕ) → at < segment.count → cell (row_of (table_of segment).columns at) field
       ≡ value_in column at
 
@@ -70,14 +54,3 @@ IsUnread segment field = (at : ℕ) → cell (row_of (table_of segment).columns 
 abbrev pub Widens : (ℕ → Bool) → List Bool → List Bool → Type 0
 Widens holds old new = (at : ℕ) → at < length old → get_or new at false
     ≡ (get_or old at false || holds at)
-
--- the column has the values of which an aggregate takes the numbers, row by row
-pub record IsForAgg (segment : SegmentColumns) (agg : Agg) (column : Coded) : Type 0 where
-  pub count : length column.ids.now ≡ segment.count
-  pub below : AreBelow (length column.dictionary.now.values) column.ids.now
-  pub each : (at : ℕ) → at < segment.count → number_for agg (row_of (table_of segment).columns at)
-      ≡ number_of (value_in column at)
-
--- the aggregate takes the number 0 of each row
-abbrev pub IsUnnumbered : SegmentColumns → Agg → Type 0
-IsUnnumbered segment agg = (at : ℕ) → number_for agg (row_of (table_of segment).columns at) ≡ pos 0

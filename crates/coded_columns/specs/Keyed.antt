@@ -1,9 +1,9 @@
 -- What is kept of rows by their keys: for each key a row that has it, and the aggregates.
-use Rattle.std.specs.Prelude.{◌≡◌, ◌≢◌, ◌⊎◌, ◌<◌, ◌≤◌, ◌+◌, ◌-◌, ◌++◌, ℕ, ℤ, pos, List, [], Option, Some, None, length, get_or, map}
+use Rattle.std.specs.Prelude.{◌≡◌, ◌≢◌, ◌⊎◌, ◌<◌, ◌≤◌, ◌+◌, ◌-◌, ◌++◌, ℕ, ℤ, pos, List, Option, Some, length, get_or, map}
 use Rattle.std.specs.List.{All}
+use Rattle.std.specs.Option.{option_map_or}
 use Rattle.values.specs.declared.value.Value.{Value}
 use Rattle.values.specs.Columns.{row_of}
-use Rattle.scan_engine.specs.Places.{rows_at}
 use Rattle.agg_laws.specs.Numbers.{AreWhole}
 use Rattle.agg_laws.specs.States.{Fits, state_of}
 use Rattle.agg_laws.specs.declared.aggregate_kind.AggKind.{AggKind}
@@ -11,18 +11,22 @@ use Rattle.agg_laws.specs.declared.aggregate_kind.AggKind.TheVariants as kinds
 use Rattle.agg_laws.specs.declared.states.AggState.{AggState}
 use Rattle.agg_laws.specs.declared.states.AggState.TheVariants.{Count, Sum}
 use Rattle.state_columns.specs.Columns.{state_at}
-use Rattle.group_table.specs.Groups.{number_for}
+use Rattle.value_ids.specs.Coding.{AreBelow}
+use Rattle.table_schema.specs.Conditions.{cell}
 use Rattle.table_schema.specs.declared.query.Agg.{Agg}
-use Rattle.coded_columns.specs.Coded.{column_of, most_rows, table_of}
+use Rattle.group_table.specs.Groups.{key_of, number_for, number_of}
+use Rattle.scan_engine.specs.Places.{rows_at}
+use Rattle.coded_columns.specs.Coded.{most_rows, table_of}
 use Rattle.coded_columns.specs.Keys.{AreKeys, key_at}
-use Rattle.coded_columns.specs.Slots.{in_slot, number_at}
-use Rattle.std.specs.Option.{option_map_or}
-use Rattle.coded_columns.specs.declared.coded.Coded.{Coded}
+use Rattle.coded_columns.specs.Slots.{in_slot}
 use Rattle.coded_columns.specs.declared.coded.SegmentColumns.{SegmentColumns}
 use Rattle.coded_columns.specs.declared.key_states.KeyStates.{KeyStates}
 use Rattle.coded_columns.specs.declared.key_states.KeyStates.TheVariants as states
-use Rattle.coded_columns.specs.declared.keyed_agg.KeyedAgg.{KeyedAgg}
 use Rattle.coded_columns.specs.declared.keyed_rows.KeyedRows.{KeyedRows}
+use Rattle.coded_columns.specs.declared.placed_rows.PlacedRows.{PlacedRows}
+use Rattle.coded_columns.specs.declared.row_numbers.RowNumbers.{RowNumbers}
+
+-- ---- the states of one aggregate
 
 -- the kind of the aggregate
 abbrev pub kind_in : KeyStates → AggKind
@@ -46,85 +50,136 @@ state_in (states.Others column) key = state_at column key
 abbrev pub AllFit : ℕ → KeyStates → Type 0
 AllFit n s = (key : ℕ) → key < size_in s → Fits (state_in s key) n
 
--- the ids in a column; none where it is not looked at
-abbrev pub column_ids : Option Coded → List ℕ
-column_ids None = []
-column_ids (Some column) = column.ids.now
+-- a number for each of some keys, which are no more than a segment has rows
+pub record AreKeyed (keys : List ℕ) (numbers : List ℤ) : Type 0 where
+  pub same : length numbers ≡ length keys
+  pub at_most : length keys ≤ most_rows
+  pub whole : AreWhole numbers
 
--- the ids in the column of an aggregate; none where it has none
-abbrev pub ids_for : SegmentColumns → Agg → List ℕ
-ids_for segment agg =
-    option_map_or (λ field. column_ids (column_of segment field)) agg.column []
+-- to the state of each key come the numbers that have it
+pub record AddsNumbers (keys : List ℕ) (numbers : List ℤ) (old new : KeyStates) : Type 0 where
+  pub kind : kind_in new ≡ kind_in old
+  pub size : size_in new ≡ size_in old
+  pub states : (before : ℕ → List ℤ) → ((key : ℕ) → key < size_in old
+      → state_in old key ≡ state_of (kind_in old) (before key))
+      → (key : ℕ) → key < size_in old → state_in new key
+      ≡ state_of (kind_in old) (before key ++ in_slot key keys numbers)
 
--- the number of a row
-abbrev pub number_in : SegmentColumns → Agg → KeyedAgg → ℕ → ℤ
-number_in segment agg own at = number_at (ids_for segment agg) own.numbers.items at
+-- ---- the numbers of rows
+
+-- the rows in places
+abbrev pub rows_in : PlacedRows → List (List Value)
+rows_in placed = rows_at (table_of placed.segment.now).columns placed.places.now
+
+-- the number of a row in a column; 0 where there is none
+abbrev pub number_in : Option ℕ → List Value → ℤ
+number_in column row = option_map_or (λ field. number_of (cell row field)) column (pos 0)
+
+-- these are the numbers of some rows in a column
+pub record AreNumbersIn (column : Option ℕ) (rows : List (List Value)) (numbers : List ℤ)
+    : Type 0 where
+  pub each : numbers ≡ map (number_in column) rows
+  pub whole : AreWhole numbers
+
+-- the numbers that are kept are those of these rows in the column that is told
+abbrev pub AreOfRows : List (List Value) → RowNumbers → Type 0
+AreOfRows rows own = (field : ℕ) → own.column ≡ Some field
+    → AreNumbersIn (Some field) rows own.numbers.items
+
+-- ---- the aggregates of rows by their keys
 
 -- to the state of each key come the numbers of the rows that have it
-pub record AddsKeys (segment : SegmentColumns) (agg : Agg) (keys places : List ℕ)
-    (old new : KeyedAgg) : Type 0 where
-  pub numbers : new.numbers.items ≡ old.numbers.items
-  pub kind : kind_in new.states ≡ kind_in old.states
-  pub size : size_in new.states ≡ size_in old.states
-  pub states : (before : ℕ → List ℤ) → ((key : ℕ) → key < size_in old.states
-      → state_in old.states key ≡ state_of (kind_in old.states) (before key))
-      → (key : ℕ) → key < size_in old.states → state_in new.states key
-      ≡ state_of (kind_in old.states)
-      (before key ++ in_slot key keys (map (number_in segment agg old) places))
-
--- the states of an aggregate are those of the numbers of these rows by their keys
-pub record HoldsAgg (segment : SegmentColumns) (key : ℕ → ℕ) (size : ℕ) (places : List ℕ)
-    (agg : Agg) (own : KeyedAgg) : Type 0 where
-  pub kind : kind_in own.states ≡ agg.kind
-  pub size_is : size_in own.states ≡ size
-  pub whole : AreWhole own.numbers.items
-  pub numbers : (agg.kind ≡ kinds.Count) ⊎ ((at : ℕ) → at < segment.count
-      → number_in segment agg own at ≡ number_for agg (row_of (table_of segment).columns at))
-  pub states : (k : ℕ) → k < size → state_in own.states k
-      ≡ state_of agg.kind (in_slot k (map key places) (map (number_in segment agg own) places))
+pub record AddsAgg (agg : Agg) (keys : List ℕ) (rows : List (List Value)) (old new : KeyStates)
+    : Type 0 where
+  pub numbers : AddsNumbers keys (map (number_for agg) rows) old new
+  pub whole : (kind_in old ≡ kinds.Count) ⊎ AreWhole (map (number_for agg) rows)
 
 -- the same of each of some aggregates
-pub record HoldAggs (segment : SegmentColumns) (key : ℕ → ℕ) (size : ℕ) (places : List ℕ)
-    (aggs : List Agg) (owns : List KeyedAgg) : Type 0 where
+pub record AllAdd (aggs : List Agg) (keys : List ℕ) (rows : List (List Value))
+    (olds news : List KeyStates) : Type 0 where
+  pub count : length news ≡ length olds
+  pub each : (i : ℕ) (agg : Agg) (own : KeyStates) → i < length olds
+      → AddsAgg (get_or aggs i agg) keys rows (get_or olds i own) (get_or news i own)
+
+-- the states of an aggregate are those of the numbers of these rows, key by key
+pub record HoldsAgg (size : ℕ) (keys : List ℕ) (rows : List (List Value)) (agg : Agg)
+    (own : KeyStates) : Type 0 where
+  pub kind : kind_in own ≡ agg.kind
+  pub size_is : size_in own ≡ size
+  pub whole : (agg.kind ≡ kinds.Count) ⊎ AreWhole (map (number_for agg) rows)
+  pub states : (k : ℕ) → k < size → state_in own k
+      ≡ state_of agg.kind (in_slot k keys (map (number_for agg) rows))
+
+-- the same of each of some aggregates
+pub record HoldAggs (size : ℕ) (keys : List ℕ) (rows : List (List Value)) (aggs : List Agg)
+    (owns : List KeyStates) : Type 0 where
   pub count : length owns ≡ length aggs
-  pub each : (i : ℕ) (agg : Agg) (own : KeyedAgg) → i < length aggs
-      → HoldsAgg segment key size places (get_or aggs i agg) (get_or owns i own)
+  pub each : (i : ℕ) (agg : Agg) (own : KeyStates) → i < length aggs
+      → HoldsAgg size keys rows (get_or aggs i agg) (get_or owns i own)
+
+-- states to which the numbers of rows that have these keys can be added
+pub record TakesKeys (keys : List ℕ) (own : KeyStates) : Type 0 where
+  pub below : AreBelow (size_in own) keys
+  pub fits : AllFit (most_rows - length keys) own
+
+-- the same of each of some aggregates
+pub record TakeKeys (aggs : List Agg) (keys : List ℕ) (owns : List KeyStates) : Type 0 where
+  pub count : length owns ≡ length aggs
+  pub each : All (TakesKeys keys) owns
+
+-- ---- a row for each key
+
+-- one more than the place of a row that has, in the group columns, the values of each row of the
+-- key, or 0 where no row has it
+pub record IsFirst (segment : SegmentColumns) (groups keys places : List ℕ) (k first : ℕ)
+    : Type 0 where
+  pub none : first ≡ 0 → (j : ℕ) → j < length keys → get_or keys j 0 ≢ k
+  pub within : 0 < first → first - 1 < segment.count
+  pub has : 0 < first → 0 < length (in_slot k keys places)
+  pub same : 0 < first → (j : ℕ) → j < length places → get_or keys j 0 ≡ k
+      → key_of groups (row_of (table_of segment).columns (get_or places j 0))
+      ≡ key_of groups (row_of (table_of segment).columns (first - 1))
+
+-- what is kept is that of these rows, which have these keys
+pub record HoldsKeys (segment : SegmentColumns) (groups : List ℕ) (aggs : List Agg)
+    (keys places : List ℕ) (rows : KeyedRows) : Type 0 where
+  pub count : length keys ≡ length places
+  pub below : (j : ℕ) → j < length keys → get_or keys j 0 < length rows.firsts.items
+  pub firsts : (k : ℕ) → k < length rows.firsts.items
+      → IsFirst segment groups keys places k (get_or rows.firsts.items k 0)
+  pub states : HoldAggs (length rows.firsts.items) keys
+      (rows_at (table_of segment).columns places) aggs rows.aggs.items
+
+-- what is kept is that of these rows, by some keys of them
+pub record HoldsRows (segment : SegmentColumns) (groups : List ℕ) (aggs : List Agg)
+    (places : List ℕ) (rows : KeyedRows) : Type 0 where
+  pub keys : List ℕ
+  pub holds : HoldsKeys segment groups aggs keys places rows
+
+-- ---- rows by packed keys, block by block
 
 -- one more than the place of a row of this key, or 0 where none of these rows has it
-pub record IsFirst (count : ℕ) (key : ℕ → ℕ) (places : List ℕ) (k first : ℕ) : Type 0 where
+pub record HasFirst (count : ℕ) (key : ℕ → ℕ) (places : List ℕ) (k first : ℕ) : Type 0 where
   pub none : first ≡ 0 → (j : ℕ) → j < length places → key (get_or places j 0) ≢ k
   pub some : 0 < first → (first - 1 < count) × (key (first - 1) ≡ k)
   pub has : 0 < first → 0 < length (in_slot k (map key places) places)
 
--- those of the rows in these places that have a key
-abbrev pub rows_of_key : SegmentColumns → List ℕ → List ℕ → ℕ → List (List Value)
-rows_of_key segment groups places k =
-    in_slot k (map (key_at segment groups) places) (rows_at (table_of segment).columns places)
-
--- what is kept is that of these rows
-pub record HoldsRows (segment : SegmentColumns) (groups : List ℕ) (aggs : List Agg)
+-- what is kept is that of these rows, by their packed keys
+pub record HoldsPacked (segment : SegmentColumns) (groups : List ℕ) (aggs : List Agg)
     (places : List ℕ) (rows : KeyedRows) : Type 0 where
   pub keys : AreKeys segment groups (length rows.firsts.items)
   pub firsts : (k : ℕ) → k < length rows.firsts.items
-      → IsFirst segment.count (key_at segment groups) places k (get_or rows.firsts.items k 0)
-  pub states : HoldAggs segment (key_at segment groups) (length rows.firsts.items) places aggs
-      rows.aggs.items
+      → HasFirst segment.count (key_at segment groups) places k (get_or rows.firsts.items k 0)
+  pub states : HoldAggs (length rows.firsts.items) (map (key_at segment groups) places)
+      (rows_at (table_of segment).columns places) aggs rows.aggs.items
 
 -- so many rows more can be added
 pub record TakesRows (segment : SegmentColumns) (groups : List ℕ) (aggs : List Agg) (more : ℕ)
     (rows : KeyedRows) : Type 0 where
   pub keys : AreKeys segment groups (length rows.firsts.items)
-  pub at_most : more ≤ most_rows
   pub count : length rows.aggs.items ≡ length aggs
-  pub sizes : All (λ own. size_in own.states ≡ length rows.firsts.items) rows.aggs.items
-  pub fits : All (λ own. AllFit (most_rows - more) own.states) rows.aggs.items
-
--- to each of some aggregates come the numbers of these rows
-pub record AllAdd (segment : SegmentColumns) (aggs : List Agg) (keys places : List ℕ)
-    (olds news : List KeyedAgg) : Type 0 where
-  pub count : length news ≡ length olds
-  pub each : (i : ℕ) (agg : Agg) (own : KeyedAgg) → i < length olds
-      → AddsKeys segment (get_or aggs i agg) keys places (get_or olds i own) (get_or news i own)
+  pub sizes : All (λ own. size_in own ≡ length rows.firsts.items) rows.aggs.items
+  pub fits : All (λ own. AllFit (most_rows - more) own) rows.aggs.items
 
 -- what is kept of a key is a row among the first so many that has the key
 pub record IsSetBy (n : ℕ) (keys places : List ℕ) (k new : ℕ) : Type 0 where
@@ -139,9 +194,9 @@ SetsFirst n keys places k old new =
     ((new ≡ old) × ((j : ℕ) → j < n → get_or keys j 0 ≢ k)) ⊎ IsSetBy n keys places k new
 
 -- the rows in these places, which have these keys, were added
-pub record AddsPlaces (segment : SegmentColumns) (aggs : List Agg) (keys places : List ℕ)
+pub record AddsPlaces (placed : PlacedRows) (aggs : List Agg) (keys : List ℕ)
     (old new : KeyedRows) : Type 0 where
   pub size : length new.firsts.items ≡ length old.firsts.items
-  pub firsts : (k : ℕ) → SetsFirst (length places) keys places k
+  pub firsts : (k : ℕ) → SetsFirst (length placed.places.now) keys placed.places.now k
       (get_or old.firsts.items k 0) (get_or new.firsts.items k 0)
-  pub states : AllAdd segment aggs keys places old.aggs.items new.aggs.items
+  pub states : AllAdd aggs keys (rows_in placed) old.aggs.items new.aggs.items

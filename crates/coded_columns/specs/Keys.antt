@@ -5,6 +5,7 @@ use Rattle.group_table.specs.Groups.{key_of}
 use Rattle.coded_columns.specs.Coded.{column_of, most_rows, table_of}
 use Rattle.coded_columns.specs.declared.coded.Coded.{Coded}
 use Rattle.coded_columns.specs.declared.coded.SegmentColumns.{SegmentColumns}
+use Rattle.coded_columns.specs.declared.placed_rows.PlacedRows.{PlacedRows}
 
 -- a number, and after it the id of a row in a column, if it is looked at
 abbrev pub packed_with : Option Coded → ℕ → ℕ → ℕ
@@ -32,3 +33,8 @@ pub record AreKeys (segment : SegmentColumns) (groups : List ℕ) (size : ℕ) :
       → key_at segment groups at ≡ key_at segment groups other
       → key_of groups (row_of (table_of segment).columns at)
       ≡ key_of groups (row_of (table_of segment).columns other)
+
+-- the ids of these rows in the first of some columns, however many, make small numbers
+abbrev pub ArePackable : PlacedRows → List ℕ → Type 0
+ArePackable placed groups = (i k : ℕ) → k < length placed.places.now
+    → key_at placed.segment.now (take i groups) (get_or placed.places.now k 0) < most_rows

@@ -1,4 +1,5 @@
 pub mod Ids
+pub mod IdColumns
 pub mod Coded
 pub mod Slots
 pub mod Keys

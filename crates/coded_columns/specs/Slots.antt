@@ -1,11 +1,10 @@
 -- Rows in slots: those of one key have one slot.
-use Rattle.std.specs.Prelude.{◌≡◌, ◌≢◌, ◌⊎◌, ◌≤◌, ◌<◌, ◌+◌, ◌*◌, ◌++◌, ℕ, ℤ, pos, Option, Some, None, List, [], ◌∷◌, length, get_or, nat_lt, if◌then◌else◌, ◌==◌}
+use Rattle.std.specs.Prelude.{◌≡◌, ◌≢◌, ◌⊎◌, ◌≤◌, ◌<◌, ◌+◌, ◌*◌, ◌++◌, ℕ, ℤ, Option, Some, None, List, [], ◌∷◌, length, get_or, nat_lt, if◌then◌else◌, ◌==◌}
 use Rattle.values.specs.Columns.{Listed, row_of}
 use Rattle.value_ids.specs.Coding.{AreBelow}
 use Rattle.coded_columns.specs.Coded.{most_rows}
 use Rattle.group_table.specs.Groups.{key_of}
 use Rattle.state_columns.specs.Columns.{Column, state_at}
-use Rattle.agg_laws.specs.declared.aggregate_kind.AggKind.{AggKind}
 use Rattle.agg_laws.specs.States.{state_of}
 
 -- those of a list that have this slot
@@ -82,23 +81,6 @@ pub record AreSlots (columns : List Listed) (groups places slots firsts : List �
       (row_of columns (get_or places k 0))
   pub firsts_in : (slot : ℕ) → slot < length firsts → get_or firsts slot 0 < length places
   pub firsts_have : (slot : ℕ) → slot < length firsts → get_or slots (get_or firsts slot 0) 0 ≡ slot
-
--- there is a slot for each of some places, which are no more than a segment has rows
-pub record HaveSlots (slots places : List ℕ) : Type 0 where
-  pub at_most : length places ≤ most_rows
-  pub same : length slots ≡ length places
-
--- the number of a row, by its id in a column; without one it is 0
-abbrev pub number_at : List ℕ → List ℤ → ℕ → ℤ
-number_at ids numbers at = get_or numbers (get_or ids at 0) (pos 0)
-
--- in each slot the aggregate of the numbers that have it
-pub record HoldsSlots (kind : AggKind) (count : ℕ) (slots : List ℕ) (numbers : List ℤ)
-    (column : Column) : Type 0 where
-  pub kind_is : column.kind ≡ kind
-  pub count_is : length column.states ≡ count
-  pub each : (slot : ℕ) → slot < count → state_at column slot
-      ≡ state_of kind (in_slot slot slots numbers)
 
 -- to the state in each slot come the numbers that have it
 pub record MoreStates (slots : List ℕ) (numbers : List ℤ) (old new : Column) : Type 0 where

@@ -1,4 +1,5 @@
 //! The columns of a segment by the ids of their values.
+ghost use Rattle.coded_columns.specs.IdColumns.{AreCoded};
 
 use crate::ids::Ids;
 use dictionary::Dictionary;
@@ -12,22 +13,20 @@ pub struct Coded<'a> {
 }
 
 /// The columns of a segment by the numbers of their fields, as far as they are looked at, and how
-/// many rows there are.
+/// many rows there are, each with its id in each column.
 #[derive(Clone, Copy)]
 pub struct SegmentColumns<'a> {
     pub columns: &'a [Option<Coded<'a>>],
     pub count: usize,
+    ghost coded: { AreCoded count columns.now },
 }
 
 impl<'a> SegmentColumns<'a> {
-    ghost use Rattle.std.specs.Prelude.{◌≡◌, ◌<◌, IfOk, MatchOption};
-    ghost use Rattle.values.specs.Columns.{row_of};
-    ghost use Rattle.group_table.specs.Groups.{key_of};
-    ghost use Rattle.coded_columns.specs.Coded.{AreCoded, IsOfField, IsUnread, column_of, table_of};
+    ghost use Rattle.std.specs.Prelude.{◌≡◌, MatchOption};
+    ghost use Rattle.coded_columns.specs.Coded.{IsOfField, IsUnread, column_of};
 
     /// The column of a field, if it is looked at.
     pub fn column(&self, field: u16) -> Option<Coded<'a>>
-        requires { AreCoded self.now }
         ensures { MatchOption result (IsUnread self.now field) (IsOfField self.now field) }
     {
         self.at(field)

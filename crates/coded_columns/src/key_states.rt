@@ -1,10 +1,15 @@
 //! The states of one aggregate, key by key.
 
-ghost use Rattle.std.specs.Prelude.{◌≡◌, ◌<◌, ℕ, IfOk};
-ghost use Rattle.agg_laws.specs.States.{unit_of};
-ghost use Rattle.coded_columns.specs.Keyed.{kind_in, size_in, state_in};
+ghost use Rattle.std.specs.Prelude.{◌≡◌, ◌<◌, ◌-◌, ℕ, IfOk, length, replicate};
+ghost use Rattle.agg_laws.specs.States.{Fits, unit_of};
+ghost use Rattle.state_columns.specs.Columns.{state_at};
+ghost use Rattle.value_ids.specs.Coding.{AreBelow};
+ghost use Rattle.coded_columns.specs.Coded.{most_rows};
+ghost use Rattle.coded_columns.specs.Keyed.{AddsNumbers, AllFit, AreKeyed, kind_in, size_in, state_in};
+ghost use Rattle.coded_columns.specs.Slots.{MoreStates};
 
-use crate::folding::units;
+use crate::counting::count_keys;
+use crate::summing::add_sums;
 use agg_laws::{AggKind, AggState};
 use state_columns::StateColumn;
 use std::alloc::Global;
@@ -42,6 +47,21 @@ impl KeyStates {
         }
     }
 
+    /// Adds the number of each row to the state of the row's key. Where rows are counted their
+    /// numbers are not looked at.
+    pub fn add(&mut self, keys: &[u32], numbers: &[i64])
+        requires keyed { AreKeyed keys.now numbers.now }
+        requires below { AreBelow (size_in self.old) keys.now }
+        requires fits { AllFit (most_rows - length keys.now) self.old }
+        ensures { AddsNumbers keys.now numbers.now self.old self.new }
+    {
+        match self {
+            KeyStates::Counts(counts) => count_keys(keys, counts),
+            KeyStates::Sums(sums) => add_sums(keys, numbers, sums),
+            KeyStates::Others(column) => add_numbers(column, keys, numbers),
+        }
+    }
+
     /// The state of a key.
     #[inline(always)]
     pub fn at(&self, key: usize) -> AggState
@@ -53,5 +73,31 @@ impl KeyStates {
             KeyStates::Sums(sums) => AggState::Sum(sums[key]),
             KeyStates::Others(column) => column.at(key),
         }
+    }
+}
+
+// So many states of no number, in a column.
+fn units(alloc: Global, kind: AggKind, count: usize) -> Result<StateColumn, NoMemory>
+    ensures kind { IfOk result (λ column. column.kind ≡ kind) }
+    ensures states { IfOk result (λ column. column.states ≡ replicate count (unit_of kind)) }
+{
+    let mut column = StateColumn::new(alloc, kind);
+    column.reserve(count)?;
+    for _ in 0..count {
+        column.push_unit();
+    }
+    Ok(column)
+}
+
+// Adds the number of each row to the state of the row's key in a column.
+fn add_numbers(column: &mut StateColumn, keys: &[u32], numbers: &[i64])
+    requires keyed { AreKeyed keys.now numbers.now }
+    requires below { AreBelow (length column.old.states) keys.now }
+    requires fits { (key : ℕ) → key < length column.old.states
+        → Fits (state_at column.old key) (most_rows - length keys.now) }
+    ensures { MoreStates keys.now numbers.now column.old column.new }
+{
+    for k in 0..keys.len() {
+        column.add_at(keys[k] as usize, numbers[k]);
     }
 }

@@ -1,92 +1,113 @@
 //! What is kept of a segment's rows by their keys.
 
-ghost use Rattle.std.specs.Prelude.{◌≡◌, ◌≤◌, ◌<◌, ◌+◌, ◌-◌, ℕ, [], IfOk, OnOk, get_or, length, map};
+ghost use Rattle.std.specs.Prelude.{◌≡◌, ◌<◌, ◌+◌, ℕ, [], IfOk, OnOk, get_or, length, map};
 ghost use Rattle.std.specs.List.{All};
 ghost use Rattle.value_ids.specs.Coding.{AreBelow};
-ghost use Rattle.coded_columns.specs.Coded.{AreCoded, most_rows};
-ghost use Rattle.coded_columns.specs.Keyed.{AddsPlaces, AllAdd, AllFit, HoldAggs, HoldsRows, SetsFirst, TakesRows, size_in, state_in};
+ghost use Rattle.coded_columns.specs.Coded.{most_rows};
+ghost use Rattle.coded_columns.specs.Keyed.{AddsAgg, AddsPlaces, AllAdd, AreOfRows, HoldAggs, HoldsPacked, HoldsRows, SetsFirst, TakeKeys, TakesKeys, TakesRows, rows_in, size_in, state_in};
 ghost use Rattle.coded_columns.specs.Keys.{AreKeys, key_at};
 
-use crate::coded::SegmentColumns;
-use crate::keyed_agg::KeyedAgg;
+use crate::counting::count_keys;
+use crate::key_states::KeyStates;
 use crate::keys::pack_keys;
+use crate::placed_rows::PlacedRows;
+use crate::row_numbers::RowNumbers;
+use crate::slots::{Slots, slots_of};
 use state_columns::StateRow;
 use std::alloc::Global;
 use table_schema::Agg;
 use values::NoMemory;
+
+/// The numbers of so many rows are kept at once.
+const PART: usize = 4096;
 
 /// For each key of the rows that were added one more than the place of such a row, or 0 where none
 /// has it, and the states of the aggregates.
 #[derive(Drop)]
 pub struct KeyedRows {
     pub firsts: Vec<u32>,
-    pub aggs: Vec<KeyedAgg>,
+    pub aggs: Vec<KeyStates>,
+}
+
+/// Room for the keys and the numbers of rows that are added.
+#[derive(Drop)]
+pub struct KeyRoom {
+    pub keys: Vec<u32>,
+    pub numbers: RowNumbers,
+}
+
+impl KeyRoom {
+    /// Room that takes no memory yet.
+    pub fn new(alloc: Global) -> KeyRoom {
+        KeyRoom {
+            keys: Vec::new(alloc),
+            numbers: RowNumbers::new(alloc),
+        }
+    }
 }
 
 impl KeyedRows {
     /// No rows, of which there may be so many keys.
-    pub fn new(
-        alloc: Global,
-        segment: &SegmentColumns<'_>,
-        aggs: &[Agg],
-        size: usize,
-    ) -> Result<KeyedRows, NoMemory>
-        requires { AreCoded segment.now }
-        ensures { IfOk result (λ rows. (groups : _) → AreKeys segment.now groups size
-            → HoldsRows segment.now groups aggs.now [] rows) }
+    pub fn new(alloc: Global, aggs: &[Agg], size: usize) -> Result<KeyedRows, NoMemory>
+        ensures { IfOk result (λ rows. (segment : _) (groups : _) → AreKeys segment groups size
+            → HoldsPacked segment groups aggs.now [] rows) }
     {
         let firsts = zeros(alloc, size)?;
-        let aggs = keyed_aggs(alloc, segment, aggs, size)?;
+        let aggs = units_of(alloc, aggs, size)?;
         Ok(KeyedRows { firsts, aggs })
     }
 
-    /// Adds the rows in these places; their keys are put in the room.
+    /// Adds some rows by their ids in the group columns.
     pub fn add(
         &mut self,
-        segment: &SegmentColumns<'_>,
+        placed: PlacedRows<'_, '_>,
         groups: &[u16],
         aggs: &[Agg],
-        places: &[u32],
-        room: &mut Vec<u32>,
+        room: &mut KeyRoom,
     ) -> Result<(), NoMemory>
-        requires coded { AreCoded segment.now }
-        requires rows { AreBelow segment.now.count places.now }
-        requires takes { TakesRows segment.now groups.now aggs.now (length places.now) self.old }
-        ensures { OnOk result (AddsPlaces segment.now aggs.now
-            (map (key_at segment.now groups.now) places.now) places.now self.old self.new) }
+        requires { TakesRows placed.segment.now groups.now aggs.now (length placed.places.now)
+            self.old }
+        ensures { OnOk result (AddsPlaces placed.entry aggs.now
+            (map (key_at placed.entry.segment.now groups.now) placed.entry.places.now)
+            self.old self.new) }
     {
-        pack_keys(segment, groups, places, room)?;
-        self.add_keys(segment, aggs, room.as_slice(), places);
-        Ok(())
+        pack_keys(placed, groups, &mut room.keys)?;
+        set_firsts(&mut self.firsts, &room.keys, placed);
+        add_all(&mut self.aggs, placed, aggs, &room.keys, &mut room.numbers)
     }
 
-    // Adds the rows in these places, which have these keys.
-    fn add_keys(&mut self, segment: &SegmentColumns<'_>, aggs: &[Agg], keys: &[u32], places: &[u32])
-        requires coded { AreCoded segment.now }
-        requires same { length keys.now ≡ length places.now }
-        requires at_most { length places.now ≤ most_rows }
-        requires placed { AreBelow most_rows places.now }
-        requires count { length self.old.aggs.items ≡ length aggs.now }
-        requires below { AreBelow (length self.old.firsts.items) keys.now }
-        requires sizes { All (λ own. size_in own.states ≡ length self.old.firsts.items)
-            self.old.aggs.items }
-        requires fits { All (λ own. AllFit (most_rows - length places.now) own.states)
-            self.old.aggs.items }
-        ensures { AddsPlaces segment.now aggs.now keys.now places.now self.old self.new }
+    /// What is kept of some rows, by slots for their values in the group columns.
+    pub fn by_slots(
+        alloc: Global,
+        placed: PlacedRows<'_, '_>,
+        groups: &[u16],
+        aggs: &[Agg],
+    ) -> Result<KeyedRows, NoMemory>
+        ensures { IfOk result (HoldsRows placed.entry.segment.now groups.now aggs.now
+            placed.entry.places.now) }
     {
-        set_firsts(&mut self.firsts, keys, places);
-        add_all(&mut self.aggs, segment, aggs, keys, places);
+        if placed.places.is_empty() {
+            let aggs = units_of(alloc, aggs, 0)?;
+            let firsts = Vec::new(alloc);
+            return Ok(KeyedRows { firsts, aggs });
+        }
+        let Slots { slots, firsts } = slots_of(alloc, placed, groups)?;
+        let states = states_of_slots(alloc, placed, aggs, &slots, firsts.len())?;
+        let firsts = places_of_firsts(alloc, placed.places, &firsts)?;
+        Ok(KeyedRows {
+            firsts,
+            aggs: states,
+        })
     }
 
     /// The states of a key.
     pub fn states_at(&self, alloc: Global, key: usize) -> Result<StateRow, NoMemory>
-        requires { All (λ own. key < size_in own.states) self.now.aggs.items }
-        ensures { IfOk result (λ row. row
-            ≡ map (λ own. state_in own.states key) self.now.aggs.items) }
+        requires { All (λ own. key < size_in own) self.now.aggs.items }
+        ensures { IfOk result (λ row. row ≡ map (λ own. state_in own key) self.now.aggs.items) }
     {
         let mut row = StateRow::new(alloc);
         for own in self.aggs.as_slice() {
-            row.push(own.states.at(key))?;
+            row.push(own.at(key))?;
         }
         Ok(row)
     }
@@ -101,54 +122,111 @@ fn zeros(alloc: Global, size: usize) -> Result<Vec<u32>, NoMemory>
     Ok(firsts)
 }
 
-// Each aggregate of no row.
-fn keyed_aggs(
-    alloc: Global,
-    segment: &SegmentColumns<'_>,
-    aggs: &[Agg],
-    size: usize,
-) -> Result<Vec<KeyedAgg>, NoMemory>
-    requires { AreCoded segment.now }
-    ensures { IfOk result (λ owns. (key : ℕ → ℕ)
-        → HoldAggs segment.now key size [] aggs.now owns.items) }
+// For each aggregate so many states of no row.
+fn units_of(alloc: Global, aggs: &[Agg], size: usize) -> Result<Vec<KeyStates>, NoMemory>
+    ensures { IfOk result (λ owns. HoldAggs size [] [] aggs.now owns.items) }
 {
     let mut owns = Vec::with_capacity(alloc, aggs.len())?;
     for agg in aggs {
-        owns.push(KeyedAgg::new(alloc, segment, agg, size)?)?;
+        owns.push(KeyStates::units(alloc, agg.kind, size)?)?;
     }
     Ok(owns)
 }
 
 // Keeps for each key a row that has it.
-fn set_firsts(firsts: &mut [u32], keys: &[u32], places: &[u32])
-    requires same { length keys.now ≡ length places.now }
+fn set_firsts(firsts: &mut [u32], keys: &[u32], placed: PlacedRows<'_, '_>)
+    requires same { length keys.now ≡ length placed.places.now }
     requires below { AreBelow (length firsts.old) keys.now }
-    requires few { AreBelow most_rows places.now }
-    ensures { (k : ℕ) → SetsFirst (length places.now) keys.now places.now k
-        (get_or firsts.old k 0) (get_or firsts.new k 0) }
+    ensures { (k : ℕ) → SetsFirst (length placed.entry.places.now) keys.now
+        placed.entry.places.now k (get_or firsts.old k 0) (get_or firsts.new k 0) }
 {
+    let places = placed.places;
     for at in 0..keys.len() {
         firsts[keys[at] as usize] = places[at] + 1;
     }
 }
 
-// Adds the numbers of rows to the states of each aggregate.
+// Adds the numbers of rows that have these keys to the states of each aggregate.
 fn add_all(
-    owns: &mut [KeyedAgg],
-    segment: &SegmentColumns<'_>,
+    owns: &mut [KeyStates],
+    placed: PlacedRows<'_, '_>,
     aggs: &[Agg],
     keys: &[u32],
-    places: &[u32],
-)
-    requires coded { AreCoded segment.now }
-    requires count { length owns.old ≡ length aggs.now }
-    requires same { length keys.now ≡ length places.now }
-    requires at_most { length places.now ≤ most_rows }
-    requires below { All (λ own. AreBelow (size_in own.states) keys.now) owns.old }
-    requires fits { All (λ own. AllFit (most_rows - length places.now) own.states) owns.old }
-    ensures { AllAdd segment.now aggs.now keys.now places.now owns.old owns.new }
+    numbers: &mut RowNumbers,
+) -> Result<(), NoMemory>
+    requires same { length keys.now ≡ length placed.places.now }
+    requires takes { TakeKeys aggs.now keys.now owns.old }
+    ensures { OnOk result (AllAdd aggs.now keys.now (rows_in placed.entry) owns.old owns.new) }
 {
+    numbers.forget();
     for at in 0..owns.len() {
-        owns[at].add(segment, &aggs[at], keys, places);
+        add_agg(&mut owns[at], placed, &aggs[at], keys, numbers)?;
     }
+    Ok(())
+}
+
+// Adds the numbers of rows that have these keys to the states of one aggregate.
+fn add_agg(
+    own: &mut KeyStates,
+    placed: PlacedRows<'_, '_>,
+    agg: &Agg,
+    keys: &[u32],
+    numbers: &mut RowNumbers,
+) -> Result<(), NoMemory>
+    requires same { length keys.now ≡ length placed.places.now }
+    requires takes { TakesKeys keys.now own.old }
+    requires told { AreOfRows (rows_in placed) numbers.old }
+    ensures adds { OnOk result (AddsAgg agg.now keys.now (rows_in placed.entry) own.old own.new) }
+    ensures told { OnOk result (AreOfRows (rows_in placed.entry) numbers.new) }
+{
+    if let KeyStates::Counts(counts) = own {
+        count_keys(keys, counts);
+        return Ok(());
+    }
+    numbers.read(placed, agg.column)?;
+    own.add(keys, &numbers.numbers);
+    Ok(())
+}
+
+// The states of the aggregates of rows in so many slots.
+fn states_of_slots(
+    alloc: Global,
+    placed: PlacedRows<'_, '_>,
+    aggs: &[Agg],
+    slots: &[u32],
+    count: usize,
+) -> Result<Vec<KeyStates>, NoMemory>
+    requires same { length slots.now ≡ length placed.places.now }
+    requires below { AreBelow count slots.now }
+    ensures { IfOk result (λ owns. HoldAggs count slots.now (rows_in placed.entry) aggs.now
+        owns.items) }
+{
+    let mut owns = units_of(alloc, aggs, count)?;
+    let mut numbers = RowNumbers::new(alloc);
+    let places = placed.places;
+    let mut from = 0;
+    while from < slots.len() {
+        let to = slots.len().min(from + PART);
+        let part = PlacedRows {
+            segment: placed.segment,
+            places: &places[from..to],
+        };
+        add_all(&mut owns, part, aggs, &slots[from..to], &mut numbers)?;
+        from = to;
+    }
+    Ok(owns)
+}
+
+// One more than the place of the first row of each slot.
+fn places_of_firsts(alloc: Global, places: &[u32], firsts: &[u32]) -> Result<Vec<u32>, NoMemory>
+    requires within { AreBelow (length places.now) firsts.now }
+    requires few { AreBelow most_rows places.now }
+    ensures { IfOk result (λ own. own.items ≡ map (λ first. get_or places.now first 0 + 1)
+        firsts.now) }
+{
+    let mut own = Vec::with_capacity(alloc, firsts.len())?;
+    for first in firsts {
+        own.push(places[*first as usize] + 1)?;
+    }
+    Ok(own)
 }

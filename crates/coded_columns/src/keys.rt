@@ -3,11 +3,12 @@
 ghost use Rattle.std.specs.Prelude.{◌≡◌, ◌≤◌, ◌<◌, ◌+◌, ◌*◌, ◌++◌, ◌∷◌, [], ℕ, List, OnOk, get_or, length, map, take};
 ghost use Rattle.std.specs.Option.{IfSome};
 ghost use Rattle.value_ids.specs.Coding.{AreBelow};
-ghost use Rattle.coded_columns.specs.Coded.{AreCoded, column_of, most_rows};
-ghost use Rattle.coded_columns.specs.Keys.{AreKeys, key_at, packed_with};
+ghost use Rattle.coded_columns.specs.Coded.{column_of, most_rows};
+ghost use Rattle.coded_columns.specs.Keys.{AreKeys, ArePackable, key_at, packed_with};
 
 use crate::coded::SegmentColumns;
 use crate::ids::Ids;
+use crate::placed_rows::PlacedRows;
 use values::NoMemory;
 
 /// There are at most so many keys, and one for so many rows: what is kept by keys is then less than
@@ -18,7 +19,6 @@ const ROWS_A_KEY: usize = 8;
 
 /// How many keys the ids in some group columns can make, unless these may be too many.
 pub fn key_count(segment: &SegmentColumns<'_>, groups: &[u16]) -> Option<usize>
-    requires { AreCoded segment.now }
     ensures { IfSome result (AreKeys segment.now groups.now) }
 {
     let most = MOST_KEYS.min(segment.count / ROWS_A_KEY);
@@ -34,8 +34,7 @@ pub fn key_count(segment: &SegmentColumns<'_>, groups: &[u16]) -> Option<usize>
 
 // How many keys there are with one group column more.
 fn count_with(segment: &SegmentColumns<'_>, group: u16, size: usize) -> usize
-    requires coded { AreCoded segment.now }
-    requires few { size ≤ most_rows }
+    requires { size ≤ most_rows }
     ensures { (groups : List ℕ) → AreKeys segment.now groups size → result ≤ most_rows
         → AreKeys segment.now (groups ++ group ∷ []) result }
 {
@@ -53,52 +52,47 @@ fn times(size: usize, width: u32) -> usize
     size * width as usize
 }
 
-/// The keys of the rows in these places, in place of others.
+/// The keys of rows, in place of others.
 pub fn pack_keys(
-    segment: &SegmentColumns<'_>,
+    placed: PlacedRows<'_, '_>,
     groups: &[u16],
-    places: &[u32],
     keys: &mut Vec<u32>,
 ) -> Result<(), NoMemory>
-    requires coded { AreCoded segment.now }
-    requires rows { AreBelow segment.now.count places.now }
-    requires few { (i k : ℕ) → k < length places.now
-        → key_at segment.now (take i groups.now) (get_or places.now k 0) < most_rows }
-    ensures { OnOk result (keys.new.items ≡ map (key_at segment.now groups.now) places.now) }
+    requires { ArePackable placed groups.now }
+    ensures { OnOk result (keys.new.items
+        ≡ map (key_at placed.entry.segment.now groups.now) placed.entry.places.now) }
 {
     keys.clear();
-    keys.resize(places.len(), 0)?;
-    add_columns(segment, groups, places, keys);
+    keys.resize(placed.places.len(), 0)?;
+    add_columns(placed, groups, keys);
     Ok(())
 }
 
 // Packs the ids of rows in each group column after their keys, which are 0 yet.
-fn add_columns(segment: &SegmentColumns<'_>, groups: &[u16], places: &[u32], keys: &mut [u32])
-    requires coded { AreCoded segment.now }
-    requires rows { AreBelow segment.now.count places.now }
-    requires same { length keys.old ≡ length places.now }
+fn add_columns(placed: PlacedRows<'_, '_>, groups: &[u16], keys: &mut [u32])
+    requires same { length keys.old ≡ length placed.places.now }
     requires empty { (k : ℕ) → get_or keys.old k 0 ≡ 0 }
-    requires few { (i k : ℕ) → k < length places.now
-        → key_at segment.now (take i groups.now) (get_or places.now k 0) < most_rows }
-    ensures { keys.new ≡ map (key_at segment.now groups.now) places.now }
+    requires few { ArePackable placed groups.now }
+    ensures { keys.new ≡ map (key_at placed.entry.segment.now groups.now)
+        placed.entry.places.now }
 {
     for at in 0..groups.len() {
-        add_column(segment, groups[at], places, keys);
+        add_column(placed, groups[at], keys);
     }
 }
 
 // Packs the ids of rows in one group column more after their keys, if it is looked at.
-fn add_column(segment: &SegmentColumns<'_>, group: u16, places: &[u32], keys: &mut [u32])
-    requires coded { AreCoded segment.now }
-    requires rows { AreBelow segment.now.count places.now }
-    requires same { length keys.old ≡ length places.now }
-    requires fits { (k : ℕ) → k < length places.now → packed_with (column_of segment.now group)
-        (get_or keys.old k 0) (get_or places.now k 0) < most_rows }
-    ensures { (k : ℕ) → k < length places.now → get_or keys.new k 0
-        ≡ packed_with (column_of segment.now group) (get_or keys.old k 0) (get_or places.now k 0) }
+fn add_column(placed: PlacedRows<'_, '_>, group: u16, keys: &mut [u32])
+    requires same { length keys.old ≡ length placed.places.now }
+    requires fits { (k : ℕ) → k < length placed.places.now
+        → packed_with (column_of placed.segment.now group) (get_or keys.old k 0)
+        (get_or placed.places.now k 0) < most_rows }
+    ensures { (k : ℕ) → k < length placed.entry.places.now → get_or keys.new k 0
+        ≡ packed_with (column_of placed.entry.segment.now group) (get_or keys.old k 0)
+        (get_or placed.entry.places.now k 0) }
 {
-    match segment.at(group) {
-        Some(column) => add_ids(keys, column.dictionary.count(), column.ids, places),
+    match placed.segment.at(group) {
+        Some(column) => add_ids(keys, column.dictionary.count(), column.ids, placed.places),
         None => {}
     }
 }

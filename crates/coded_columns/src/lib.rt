@@ -4,22 +4,19 @@
 
 mod coded;
 mod counting;
-mod folding;
 mod ids;
 mod key_states;
-mod keyed_agg;
 mod keyed_rows;
 mod keys;
-mod numbering;
 mod placed_ids;
+mod placed_rows;
 mod ranking;
+mod row_numbers;
 mod slots;
-mod slotted_rows;
 mod summing;
 
 pub use coded::{Coded, SegmentColumns};
-pub use folding::fold_slots;
 pub use ids::{IdRoom, Ids};
-pub use keyed_rows::KeyedRows;
+pub use keyed_rows::{KeyRoom, KeyedRows};
 pub use keys::key_count;
-pub use slots::{Slots, slots_of};
+pub use placed_rows::PlacedRows;

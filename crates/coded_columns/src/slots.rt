@@ -1,12 +1,12 @@
 //! The slots of rows: rows of one key in the group columns have one slot.
 
-ghost use Rattle.std.specs.Prelude.{◌≡◌, ◌≤◌, ◌<◌, ◌∷◌, ◌++◌, [], List, ℕ, length, IfOk};
+ghost use Rattle.std.specs.Prelude.{◌≡◌, ◌<◌, ◌≤◌, ◌∷◌, ◌++◌, [], List, ℕ, length, IfOk};
 ghost use Rattle.value_ids.specs.Coding.{AreBelow};
-ghost use Rattle.coded_columns.specs.Coded.{AreCoded, table_of};
+ghost use Rattle.coded_columns.specs.Coded.{table_of};
 ghost use Rattle.coded_columns.specs.Slots.{AreSlots};
 
-use crate::coded::SegmentColumns;
 use crate::placed_ids::PlacedIds;
+use crate::placed_rows::PlacedRows;
 use crate::ranking::refine;
 use std::alloc::Global;
 use values::NoMemory;
@@ -18,24 +18,20 @@ pub struct Slots {
     pub firsts: Vec<u32>,
 }
 
-/// The slots of the rows in these places, of which there are some.
+/// The slots of rows, of which there are some.
 pub fn slots_of(
     alloc: Global,
-    segment: &SegmentColumns<'_>,
+    placed: PlacedRows<'_, '_>,
     groups: &[u16],
-    places: &[u32],
 ) -> Result<Slots, NoMemory>
-    requires coded { AreCoded segment.now }
-    requires some { 0 < length places.now }
-    requires at_most { length places.now ≤ segment.now.count }
-    requires rows { AreBelow segment.now.count places.now }
-    ensures { IfOk result (λ s. AreSlots (table_of segment.now).columns groups.now places.now
-        s.slots.items s.firsts.items) }
+    requires { 0 < length placed.places.now }
+    ensures { IfOk result (λ s. AreSlots (table_of placed.entry.segment.now).columns groups.now
+        placed.entry.places.now s.slots.items s.firsts.items) }
 {
-    let mut slots = vec![in alloc; 0u32; places.len()]?;
+    let mut slots = vec![in alloc; 0u32; placed.places.len()]?;
     let mut firsts = vec![in alloc; 0u32; 1]?;
     for group in groups {
-        firsts = refine_by_field(alloc, segment, *group, places, &mut slots, firsts)?;
+        firsts = refine_by_field(alloc, placed, *group, &mut slots, firsts)?;
     }
     Ok(Slots { slots, firsts })
 }
@@ -43,28 +39,25 @@ pub fn slots_of(
 // Parts the slots of rows by one group column more.
 fn refine_by_field(
     alloc: Global,
-    segment: &SegmentColumns<'_>,
+    placed: PlacedRows<'_, '_>,
     group: u16,
-    places: &[u32],
     slots: &mut [u32],
     firsts: Vec<u32>,
 ) -> Result<Vec<u32>, NoMemory>
-    requires coded { AreCoded segment.now }
-    requires at_most { length places.now ≤ segment.now.count }
-    requires rows { AreBelow segment.now.count places.now }
-    requires count { length slots.old ≡ length places.now }
-    requires few_slots { length firsts.items ≤ length places.now }
+    requires count { length slots.old ≡ length placed.places.now }
+    requires few_slots { length firsts.items ≤ length placed.places.now }
     requires below { AreBelow (length firsts.items) slots.old }
     ensures { IfOk result (λ more. (groups : List ℕ)
-        → AreSlots (table_of segment.now).columns groups places.now slots.old firsts.items
-        → AreSlots (table_of segment.now).columns (groups ++ group ∷ []) places.now
-        slots.new more.items) }
+        → AreSlots (table_of placed.entry.segment.now).columns groups placed.entry.places.now
+        slots.old firsts.items
+        → AreSlots (table_of placed.entry.segment.now).columns (groups ++ group ∷ [])
+        placed.entry.places.now slots.new more.items) }
 {
-    match segment.column(group) {
+    match placed.segment.column(group) {
         Some(column) => {
             let width = column.dictionary.count() as usize;
             let ids = PlacedIds {
-                places,
+                places: placed.places,
                 ids: column.ids,
                 width,
             };

@@ -1,5 +1,5 @@
--- The rows of one key after another, added to groups.
-use Rattle.std.proofs.Common.{◌≡◌, ◌∙◌, ◌<◌, ◌≤◌, ◌+◌, ◌-◌, ◌++◌, [], ℕ, Bool, List, length, map, get_or, ap, sym, subst, arith, pos}
+-- The rows of one key, and the places of rows that pass.
+use Rattle.std.proofs.Common.{◌≡◌, ◌∙◌, ◌<◌, ◌≤◌, ◌+◌, ◌-◌, ◌++◌, [], ℕ, Bool, List, length, map, get_or, ap, sym, arith, pos}
 use Rattle.std.proofs.lemmas.List.{get_or-map, length-map}
 use Rattle.values.specs.declared.value.Value.{Value}
 use Rattle.values.specs.declared.value.Value.TheVariants.{Whole}
@@ -11,8 +11,7 @@ use Rattle.scan_engine.specs.Places.{IsRun, rows_at}
 use Rattle.coded_columns.specs.declared.coded.SegmentColumns.{SegmentColumns}
 use Rattle.coded_columns.specs.declared.keyed_rows.KeyedRows.{KeyedRows}
 use Rattle.coded_columns.specs.Coded.{table_of}
-use Rattle.coded_columns.specs.Keyed.{HoldsRows, rows_of_key}
-use Rattle.coded_columns.specs.Keys.{key_at}
+use Rattle.coded_columns.specs.Keyed.{HoldsKeys}
 use Rattle.coded_columns.specs.Slots.{in_slot}
 use Rattle.coded_columns.proofs.KeyedSteps.{in_slot-none}
 use Rattle.coded_columns.proofs.SlotLemmas.{in_slot-all, in_slot-map}
@@ -35,40 +34,33 @@ passed-below rows = passing-below (λ at. all_let at rows.row_filters.now) 0 row
 pub passed-few : (rows : FilteredRows) → length (passed rows) ≤ rows.segment.now.count
 passed-few rows = passing-few (λ at. all_let at rows.row_filters.now) 0 rows.segment.now.count
 
-module _ (segment : SegmentColumns) (groups : List ℕ) (aggs : List Agg) (places : List ℕ) (rows : KeyedRows) (h : HoldsRows segment groups aggs places rows) (below : AreBelow segment.count places) where
+module _ (segment : SegmentColumns) (groups : List ℕ) (aggs : List Agg) (keys places : List ℕ) (rows : KeyedRows) (h : HoldsKeys segment groups aggs keys places rows) where
   abbrev pub columns : List Listed
   columns = (table_of segment).columns
 
-  abbrev pub key : ℕ → ℕ
-  key = key_at segment groups
-
   -- a key that has no first row has none
-  pub key-none : (k : ℕ) → k < length rows.firsts.items → get_or rows.firsts.items k 0 ≡ 0 → rows_of_key segment groups places k ≡ []
-  key-none k lt e = in_slot-none key places k (rows_at columns places) ((h.firsts k lt).none e)
+  pub key-none : (k : ℕ) → k < length rows.firsts.items → get_or rows.firsts.items k 0 ≡ 0 → in_slot k keys (rows_at columns places) ≡ []
+  key-none k lt e = in_slot-none keys k (rows_at columns places) ((h.firsts k lt).none e)
 
   -- the rows of a key have the values of its first row
-  pub key-run : (k : ℕ) (values : List Value) → k < length rows.firsts.items → 0 < get_or rows.firsts.items k 0 → values ≡ key_of groups (row_of columns (get_or rows.firsts.items k 0 - 1)) → IsRun groups values (rows_of_key segment groups places k)
+  pub key-run : (k : ℕ) (values : List Value) → k < length rows.firsts.items → 0 < get_or rows.firsts.items k 0 → values ≡ key_of groups (row_of columns (get_or rows.firsts.items k 0 - 1)) → IsRun groups values (in_slot k keys (rows_at columns places))
   key-run k values lt some is =
       let first : ℕ = get_or rows.firsts.items k 0 - 1 in
-      let own = (h.firsts k lt).some some in
       let many : length (rows_at columns places) ≡ length places = length-map places (row_of columns) in
       record {
         width = ap length is ∙ length-map groups (λ (g : ℕ). get_or (row_of columns first) g (Whole (pos 0)));
-        each = in_slot-all (λ row. key_of groups row ≡ values) k (map key places) (rows_at columns places) (row_of columns 0)
+        each = in_slot-all (λ row. key_of groups row ≡ values) k keys (rows_at columns places) (row_of columns 0)
             (λ j j_lt e.
             let j_in : j < length places = omega (arith, j_lt, many) in
-            let of_key : key (get_or places j 0) ≡ k = sym (get_or-map key places j 0 0 j_in) ∙ e in
             ap (key_of groups) (get_or-map (row_of columns) places j 0 (row_of columns 0) j_in)
-            ∙ h.keys.same (get_or places j 0) first (below j 0 j_in) own.0 (of_key ∙ sym own.1) ∙ sym is);
+            ∙ (h.firsts k lt).same some j j_in e ∙ sym is);
         some = λ any.
             let has = (h.firsts k lt).has some in
-            omega (arith, has, ap length (in_slot-map (row_of columns) k (map key places) places), length-map (in_slot k (map key places) places) (row_of columns));
+            omega (arith, has, ap length (in_slot-map (row_of columns) k keys places), length-map (in_slot k keys places) (row_of columns));
       }
 
-  pub keys-below : (k : ℕ) → k < length (rows_at columns places) → get_or (map key places) k 0 < length rows.firsts.items
-  keys-below k lt =
-      let k_in : k < length places = omega (arith, lt, length-map places (row_of columns)) in
-      subst (λ n. n < length rows.firsts.items) (sym (get_or-map key places k 0 0 k_in)) (h.keys.below (get_or places k 0) (below k 0 k_in))
+  pub as-many : length keys ≡ length (rows_at columns places)
+  as-many = h.count ∙ sym (length-map places (row_of columns))
 
-  pub as-many : length (map key places) ≡ length (rows_at columns places)
-  as-many = length-map places key ∙ sym (length-map places (row_of columns))
+  pub keys-below : (k : ℕ) → k < length (rows_at columns places) → get_or keys k 0 < length rows.firsts.items
+  keys-below k lt = h.below k (omega (arith, lt, as-many))

@@ -1,24 +1,20 @@
--- The rows of one slot after another, added to groups.
-use Rattle.std.proofs.Common.{◌≡◌, ◌∙◌, ◌<◌, ◌≤◌, ◌+◌, ◌-◌, ◌++◌, ◌∷◌, [], ℕ, List, length, get_or, refl, ap, sym, subst, arith, append_assoc, pos}
-use Rattle.std.proofs.lemmas.List.{length-append, length-map}
+-- The rows of one key after another, added to groups.
+use Rattle.std.proofs.Common.{◌≡◌, ◌∙◌, ◌<◌, ◌≤◌, ◌+◌, ◌-◌, ◌++◌, [], ℕ, List, length, get_or, ap, sym, subst, arith, append_assoc}
+use Rattle.std.proofs.lemmas.List.{length-append}
 use Rattle.std.proofs.lemmas.List.Sorted.{IsPermutation-append_left, IsPermutation-append_right, IsPermutation-trans, length_permutation}
-use Rattle.std.proofs.Math.ListN.{get_or-map}
 use Rattle.std.specs.List.Sorted.{IsPermutation}
 use Rattle.std.specs.FinMap as finite
 use Rattle.values.specs.declared.value.Value.{Value}
-use Rattle.values.specs.declared.value.Value.TheVariants.{Whole}
-use Rattle.values.specs.Columns.{Listed, row_of}
 use Rattle.agg_laws.specs.Numbers.{most_values}
 use Rattle.table_schema.specs.declared.query.BoundQuery.{BoundQuery}
-use Rattle.group_table.specs.Groups.{Groups, key_of}
+use Rattle.group_table.specs.Groups.{Groups}
 use Rattle.group_table.specs.Kept.{KeptGroups, groups_in}
 use Rattle.group_table.specs.Shape.{shape_of}
 use Rattle.group_table.proofs.GroupsLemmas.{same_permuted}
-use Rattle.scan_engine.specs.Places.{IsRun, rows_at}
 use Rattle.scan_engine.specs.Scanned.{AddsRows, HaveAtMost, IsOverfull}
 use Rattle.scan_engine.proofs.AddLemmas.{adds_both, at_most_more, overfull_later}
-use Rattle.coded_columns.specs.Slots.{AreSlots, before_slot, from_slot, in_slot}
-use Rattle.coded_columns.proofs.SlotLemmas.{before-all, before-few, before-none, in_slot-all, in_slot-some, next-permuted, parts-permuted}
+use Rattle.coded_columns.specs.Slots.{before_slot, from_slot, in_slot}
+use Rattle.coded_columns.proofs.SlotLemmas.{before-all, before-few, before-none, next-permuted, parts-permuted}
 
 -- rows in another order have the same groups
 pub adds-permuted : (query : BoundQuery) (count : ℕ) (xs ys : List (List Value)) (old new : KeptGroups) → IsPermutation xs ys → AddsRows query count xs old new → AddsRows query count ys old new
@@ -71,24 +67,3 @@ module _ (query : BoundQuery) (slots : List ℕ) (rows : List (List Value)) wher
   room-next n old mid at_most h a =
       at_most_more (groups_in mid) ((most_values - length rows) + length (before_slot n slots rows)) (most_values - length (in_slot n slots rows))
       (omega (arith, at_most, count-next n, before-few (n + 1) slots rows)) (a.fits (most_values - length rows) h)
-
--- the rows of a slot have the key of its first row
-pub slot-run : (columns : List Listed) (groups places slots firsts : List ℕ) (slot : ℕ) (key : List Value) → AreSlots columns groups places slots firsts → slot < length firsts
-    → key ≡ key_of groups (row_of columns (get_or places (get_or firsts slot 0) 0)) → IsRun groups key (in_slot slot slots (rows_at columns places))
-slot-run columns groups places slots firsts slot key st lt is =
-    let rows = rows_at columns places in
-    let many : length rows ≡ length places = length-map places (row_of columns) in
-    let first : ℕ = get_or firsts slot 0 in
-    record {
-      width = ap length is ∙ length-map groups (λ (g : ℕ). get_or (row_of columns (get_or places first 0)) g (Whole (pos 0)));
-      each = in_slot-all (λ row. key_of groups row ≡ key) slot slots rows (row_of columns 0)
-          (λ k k_lt e.
-          let k_in : k < length places = omega (arith, k_lt, many) in
-          ap (key_of groups) (get_or-map (row_of columns) places k 0)
-          ∙ st.same k first k_in (st.firsts_in slot lt) (e ∙ sym (st.firsts_have slot lt)) ∙ sym is);
-      some = λ any. in_slot-some slot slots rows first (st.count ∙ sym many) (omega (arith, st.firsts_in slot lt, many)) (st.firsts_have slot lt);
-    }
-
-pub none-left : (places : List ℕ) → length places ≡ 0 → places ≡ []
-none-left [] h = refl
-none-left (p ∷ ps) h = absurd (omega (arith, h))

@@ -1,3 +1,3 @@
 pub mod RowFilters
-pub mod SlotStates
+pub mod Added
 pub mod Passed

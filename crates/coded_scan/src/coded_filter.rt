@@ -5,7 +5,7 @@ ghost use Rattle.std.specs.Prelude.{◌≡◌, ◌&&◌, ◌||◌, ◌<◌, ℕ,
 ghost use Rattle.values.specs.Columns.{row_of};
 ghost use Rattle.values.specs.Tests.{holds};
 ghost use Rattle.table_schema.specs.Conditions as spec;
-ghost use Rattle.coded_columns.specs.Coded.{AreCoded, table_of};
+ghost use Rattle.coded_columns.specs.Coded.{table_of};
 ghost use Rattle.coded_scan.specs.RowFilters.{AllCover, all_let, covers, lets};
 ghost use Rattle.segment_plan.specs.Served.{is_served, unserved};
 
@@ -24,7 +24,6 @@ pub fn row_filters_of<'a>(
     conjuncts: &[Conjunct],
     choices: &[IndexChoice],
 ) -> Result<Vec<RowFilter<'a>>, NoMemory>
-    requires { AreCoded segment.now }
     ensures lets { IfOk result (λ row_filters. (at : ℕ) → at < segment.now.count
         → all_let at row_filters.items ≡ spec.all_hold (row_of (table_of segment.now).columns at)
         (unserved choices.now conjuncts.now)) }
@@ -52,7 +51,6 @@ fn push_unserved<'a>(
     conjunct: &Conjunct,
     choice: IndexChoice,
 ) -> Result<(), NoMemory>
-    requires coded { AreCoded segment.now }
     requires covers { AllCover segment.now.count row_filters.old.items }
     ensures lets { OnOk result ((at : ℕ) → at < segment.now.count → all_let at row_filters.new.items
         ≡ (all_let at row_filters.old.items && (is_served choice conjunct.now
@@ -73,7 +71,6 @@ fn row_filter_of<'a>(
     segment: &SegmentColumns<'a>,
     conjunct: &Conjunct,
 ) -> Result<RowFilter<'a>, NoMemory>
-    requires { AreCoded segment.now }
     ensures lets { IfOk result (λ row_filter. (at : ℕ) → at < segment.now.count → lets at row_filter
         ≡ spec.conjunct_holds (row_of (table_of segment.now).columns at) conjunct.now) }
     ensures covers { IfOk result (λ row_filter. covers segment.now.count row_filter ≡ true) }
@@ -97,7 +94,6 @@ fn tested<'a>(
     field: u16,
     test: &Test,
 ) -> Result<RowFilter<'a>, NoMemory>
-    requires { AreCoded segment.now }
     ensures lets { IfOk result (λ row_filter. (at : ℕ) → at < segment.now.count → lets at row_filter
         ≡ holds (spec.cell (row_of (table_of segment.now).columns at) field) test.now) }
     ensures covers { IfOk result (λ row_filter. covers segment.now.count row_filter ≡ true) }
@@ -117,7 +113,6 @@ fn wide_row_filter<'a>(
     segment: &SegmentColumns<'a>,
     wide: &Wide,
 ) -> Result<RowFilter<'a>, NoMemory>
-    requires { AreCoded segment.now }
     ensures lets { IfOk result (λ row_filter. (at : ℕ) → at < segment.now.count → lets at row_filter
         ≡ spec.wide_holds (row_of (table_of segment.now).columns at) wide.now) }
     ensures covers { IfOk result (λ row_filter. covers segment.now.count row_filter ≡ true) }

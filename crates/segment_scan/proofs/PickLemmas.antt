@@ -25,7 +25,8 @@ use Rattle.scan_engine.specs.Places.{rows_at}
 use Rattle.scan_engine.specs.Scanned.{IsOverfull, selected}
 use Rattle.coded_columns.specs.declared.coded.Coded.{Coded}
 use Rattle.coded_columns.specs.declared.coded.SegmentColumns.{SegmentColumns}
-use Rattle.coded_columns.specs.Coded.{AreCoded, IsCoded, listed, most_rows, table_of, values_of}
+use Rattle.coded_columns.specs.Coded.{listed, most_rows, table_of, values_of}
+use Rattle.coded_columns.specs.IdColumns.{AreCoded, HasIds, IsCoded}
 use Rattle.segment_scan.specs.Documents.{selected_docs}
 use Rattle.column_reader.specs.Forward.{forward_in, width_in}
 use Rattle.column_reader.specs.Picked.{IsPicked}
@@ -44,14 +45,16 @@ up_few from n (d ∷ ds) up le below =
     omega (arith, rest, up.0)
 
 one-coded : (held : Option Files) (head : Seen) (column : ℕ) (docs : List ℕ) (named : Bool) (ids : Option (List ℕ)) (coded : Option Coded) → IsPicked held head column docs named ids → IsCodedOf head column ids coded → IsCoded (length docs) coded
-one-coded held head column docs named None None picked of = tt
+one-coded held head column docs named None None picked of = λ own is. absurd cc
 one-coded held head column docs named None (Some coded) picked of = absurd of
 one-coded held head column docs named (Some ids) None picked of = absurd of
 one-coded held head column docs false (Some ids) (Some coded) picked of = absurd cc
-one-coded held head column docs true (Some ids) (Some coded) picked of = (
-  ap length of.0 ∙ picked.count,
-  subst (λ (l : List ℕ). AreBelow (length coded.dictionary.now.values) l) (sym of.0) (subst (λ (vs : List Value). AreBelow (length vs) ids) (sym of.1) picked.below),
-)
+one-coded held head column docs true (Some ids) (Some coded) picked of = λ own is.
+    let same : coded ≡ own = cc in
+    subst (HasIds (length docs)) same (record {
+      count = ap length of.0 ∙ picked.count;
+      below = subst (λ (l : List ℕ). AreBelow (length coded.dictionary.now.values) l) (sym of.0) (subst (λ (vs : List Value). AreBelow (length vs) ids) (sym of.1) picked.below);
+    })
 
 module _ (files : Files) (head : Seen) (docs : List ℕ) (k : ℕ) (lt : k < length docs) (there : get_or docs k 0 < head.rows) where
   abbrev doc : ℕ
@@ -98,28 +101,31 @@ module _ (files : Files) (head : Seen) (docs : List ℕ) (k : ℕ) (lt : k < len
       let rest = one-row (suc n) bs cs (omega (arith, e)) (λ j less. h (suc j) (omega (arith, less)) ∙ ap (λ m. get_or (values_read files head m (get_or bs j false)) doc (Whole (pos 0))) (next j)) in
       (λ i. here i ∷ rest i)
 
+-- each column that is picked has an id for each document
+pub docs-coded : (held : Option Files) (head : Seen) (named : List Bool) (docs : List ℕ) (ids : List (Option (List ℕ))) (count : ℕ) (columns : List (Option Coded)) → count ≡ length docs → length docs ≤ most_rows → length columns ≡ length named
+    → ((column : ℕ) → column < length named → IsPicked held head column docs (get_or named column false) (get_or ids column None))
+    → ((column : ℕ) → column < length named → IsCodedOf head column (get_or ids column None) (get_or columns column None)) → AreCoded count columns
+docs-coded held head named docs ids count columns count_is at_most lengths picked of = record {
+  at_most = omega (arith, count_is, at_most);
+  each = subst (λ n. All (IsCoded n) columns) (sym count_is)
+      (All-from_get_or (IsCoded (length docs)) columns None
+      (λ k lt. let less : k < length named = omega (arith, lt, lengths) in one-coded held head k docs (get_or named k false) (get_or ids k None) (get_or columns k None) (picked k less) (of k less)));
+}
+
 module _ (held : Option Files) (head : Seen) (named : List Bool) (docs : List ℕ) (ids : List (Option (List ℕ))) (segment : SegmentColumns)
     (count_is : segment.count ≡ length docs) (at_most : length docs ≤ most_rows) (within : All (λ doc. doc < head.rows) docs) (lengths : length segment.columns.now ≡ length named)
     (picked : (column : ℕ) → column < length named → IsPicked held head column docs (get_or named column false) (get_or ids column None))
     (of : (column : ℕ) → column < length named → IsCodedOf head column (get_or ids column None) (get_or segment.columns.now column None)) where
-  pub docs-coded : AreCoded segment
-  docs-coded = record {
-    at_most = omega (arith, count_is, at_most);
-    each = subst (λ n. All (IsCoded n) segment.columns.now) (sym count_is)
-        (All-from_get_or (IsCoded (length docs)) segment.columns.now None
-        (λ k lt. let less : k < length named = omega (arith, lt, lengths) in one-coded held head k docs (get_or named k false) (get_or ids k None) (get_or segment.columns.now k None) (picked k less) (of k less)));
-  }
-
   pub docs-read : (query : BoundQuery) (choices : List IndexChoice) → IfSome held (λ files. selected (rest_of query choices) (rows_of (table_of segment)) ≡ selected_docs query choices files head named docs)
   docs-read query choices = by held picked
     where
       told : (files : Files) → ((column : ℕ) → column < length named → IsPicked (Some files) head column docs (get_or named column false) (get_or ids column None)) → rows_of (table_of segment) ≡ rows_at (columns_read files head 0 named) docs
       told files picked =
-          let size : length (rows_of (table_of segment)) ≡ segment.count = length-rows segment.count (table_of segment).columns (counts segment docs-coded) in
+          let size : length (rows_of (table_of segment)) ≡ segment.count = length-rows segment.count (table_of segment).columns (counts segment) in
           ext_get_or [] (rows_of (table_of segment)) (rows_at (columns_read files head 0 named) docs) (size ∙ count_is ∙ sym (length-map docs (row_of (columns_read files head 0 named)))) (λ k lt.
           let less : k < segment.count = omega (arith, lt, size) in
           let there : k < length docs = omega (arith, less, count_is) in
-          get_or_from_slice_get (rows_of (table_of segment)) k (row_of (table_of segment).columns k) [] (row-at segment.count k (table_of segment).columns less (counts segment docs-coded))
+          get_or_from_slice_get (rows_of (table_of segment)) k (row_of (table_of segment).columns k) [] (row-at segment.count k (table_of segment).columns less (counts segment))
           ∙ ap (λ n. row_of (map (listed n) segment.columns.now) k) count_is
           ∙ one-row files head docs k there (within k 0 there) 0 named segment.columns.now lengths
           (λ j at_most. one-value files head docs k there (within k 0 there) j (get_or named j false) (get_or ids j None) (get_or segment.columns.now j None) (picked j at_most) (of j at_most)

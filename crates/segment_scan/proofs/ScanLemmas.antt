@@ -12,18 +12,21 @@ use Rattle.group_table.specs.Kept.{KeptGroups}
 use Rattle.scan_engine.specs.Scanned.{IsOverfull, selected}
 use Rattle.coded_columns.specs.declared.coded.Coded.{Coded}
 use Rattle.coded_columns.specs.declared.coded.SegmentColumns.{SegmentColumns}
-use Rattle.coded_columns.specs.Coded.{AreCoded, IsCoded, listed, most_rows, table_of, values_of}
+use Rattle.coded_columns.specs.Coded.{listed, most_rows, table_of, values_of}
+use Rattle.coded_columns.specs.IdColumns.{AreCoded, HasIds, IsCoded}
 use Rattle.column_reader.specs.Forward.{IsRead}
 use Rattle.segment_scan.specs.Scans.{IsCodedOf, columns_read, selected_read, table_read, values_read}
 
 one-coded : (held : Option Files) (head : Seen) (column : ℕ) (named : Bool) (ids : Option (List ℕ)) (coded : Option Coded) → IsRead held head column named ids → IsCodedOf head column ids coded → IsCoded head.rows coded
-one-coded held head column named ids None read of = tt
+one-coded held head column named ids None read of = λ own is. absurd cc
 one-coded held head column named None (Some coded) read of = absurd of
 one-coded held head column false (Some ids) (Some coded) read of = absurd cc
-one-coded held head column true (Some ids) (Some coded) read of = (
-  ap length of.0 ∙ read.count,
-  subst (λ (l : List ℕ). AreBelow (length coded.dictionary.now.values) l) (sym of.0) (subst (λ (vs : List Value). AreBelow (length vs) ids) (sym of.1) read.below),
-)
+one-coded held head column true (Some ids) (Some coded) read of = λ own is.
+    let same : coded ≡ own = cc in
+    subst (HasIds head.rows) same (record {
+      count = ap length of.0 ∙ read.count;
+      below = subst (λ (l : List ℕ). AreBelow (length coded.dictionary.now.values) l) (sym of.0) (subst (λ (vs : List Value). AreBelow (length vs) ids) (sym of.1) read.below);
+    })
 
 one-read : (files : Files) (head : Seen) (column : ℕ) (named : Bool) (ids : Option (List ℕ)) (coded : Option Coded) → IsRead (Some files) head column named ids → IsCodedOf head column ids coded → values_of head.rows coded ≡ values_read files head column named
 one-read files head column false None None read of = refl
@@ -48,18 +51,21 @@ all-read files head n (b ∷ bs) (c ∷ cs) e h =
     next : (n k : ℕ) → n + suc k ≡ suc n + k
     next n k = omega arith
 
+-- each of them has an id for each row
+pub coded-all : (held : Option Files) (head : Seen) (named : List Bool) (ids : List (Option (List ℕ))) (count : ℕ) (columns : List (Option Coded)) → count ≡ head.rows → head.rows ≤ most_rows → length columns ≡ length named
+    → ((column : ℕ) → column < length named → IsRead held head column (get_or named column false) (get_or ids column None))
+    → ((column : ℕ) → column < length named → IsCodedOf head column (get_or ids column None) (get_or columns column None)) → AreCoded count columns
+coded-all held head named ids count columns count_is at_most lengths read of = record {
+  at_most = omega (arith, count_is, at_most);
+  each = subst (λ n. All (IsCoded n) columns) (sym count_is)
+      (All-from_get_or (IsCoded head.rows) columns None
+      (λ k lt. let within : k < length named = omega (arith, lt, lengths) in one-coded held head k (get_or named k false) (get_or ids k None) (get_or columns k None) (read k within) (of k within)));
+}
+
 module _ (held : Option Files) (head : Seen) (named : List Bool) (ids : List (Option (List ℕ))) (segment : SegmentColumns)
     (count_is : segment.count ≡ head.rows) (at_most : head.rows ≤ most_rows) (lengths : length segment.columns.now ≡ length named)
     (read : (column : ℕ) → column < length named → IsRead held head column (get_or named column false) (get_or ids column None))
     (of : (column : ℕ) → column < length named → IsCodedOf head column (get_or ids column None) (get_or segment.columns.now column None)) where
-  pub coded-all : AreCoded segment
-  coded-all = record {
-    at_most = omega (arith, count_is, at_most);
-    each = subst (λ n. All (IsCoded n) segment.columns.now) (sym count_is)
-        (All-from_get_or (IsCoded head.rows) segment.columns.now None
-        (λ k lt. let within : k < length named = omega (arith, lt, lengths) in one-coded held head k (get_or named k false) (get_or ids k None) (get_or segment.columns.now k None) (read k within) (of k within)));
-  }
-
   pub rows-read : (query : BoundQuery) → IfSome held (λ files. selected query (rows_of (table_of segment)) ≡ selected_read query files head named)
   rows-read query = by held read
     where

@@ -9,4 +9,4 @@ pub loop-at-preserved : goal.loop-at-preserved
 loop-at-preserved c =
     let at : ℕ = c.loop-at.at in
     let below : get_or c.args.keys.now at 0 < length c.loop-at.firsts = omega (arith, c.requires.below at 0 c.loop-at-test.true, c.loop-at.auto.firsts) in
-    first-next at c.args.keys.now c.args.places.now c.args.firsts.now c.loop-at.firsts c.loop-at-test.true below c.loop-at.invariant
+    first-next at c.args.keys.now c.args.placed.places.now c.args.firsts.now c.loop-at.firsts c.loop-at-test.true below c.loop-at.invariant

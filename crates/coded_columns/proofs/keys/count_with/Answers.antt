@@ -11,7 +11,7 @@ returns-in-Some c = λ groups keys le.
     let group : ℕ = c.args.group in
     let found = sym c.at.ensures ∙ c.in-Some.is in
     keys-more segment groups group c.in-Some.column c.args.size c.times.result keys found
-    (subst (λ (o : Option Coded). MatchOption o (IsUnread segment group) (IsOfField segment group)) found (looked segment group c.requires.coded))
+    (subst (λ (o : Option Coded). MatchOption o (IsUnread segment group) (IsOfField segment group)) found (looked segment group))
     (c.times.ensures ∙ ap (λ n. c.args.size * n) c.count.ensures.count) le
 
 pub returns-in-None : goal.returns-in-None
@@ -20,4 +20,4 @@ returns-in-None c = λ groups keys le.
     let group : ℕ = c.args.group in
     let found = sym c.at.ensures ∙ c.in-None.is in
     keys-unread segment groups group c.args.size keys found
-    (subst (λ (o : Option Coded). MatchOption o (IsUnread segment group) (IsOfField segment group)) found (looked segment group c.requires.coded))
+    (subst (λ (o : Option Coded). MatchOption o (IsUnread segment group) (IsOfField segment group)) found (looked segment group))

@@ -6,9 +6,9 @@ use Rattle.coded_columns.proofs.slots.slots_of.Goals as goal
 
 pub loop-group-preserved : goal.loop-group-preserved
 loop-group-preserved c =
-    let columns = (table_of c.args.segment.now).columns in
+    let columns = (table_of c.args.placed.segment.now).columns in
     let groups : List ℕ = c.args.groups.now in
-    let places : List ℕ = c.args.places.now in
+    let places : List ℕ = c.args.placed.places.now in
     let i : ℕ = c.loop-group.group-index in
     let items : List ℕ = c.loop-group.slots.items in
     let new : List ℕ = c.refine_by_field.new.slots in

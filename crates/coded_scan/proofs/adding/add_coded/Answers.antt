@@ -1,6 +1,5 @@
 use Rattle.std.proofs.Common.{◌≡◌, ◌∙◌, ◌<◌, ℕ, Bool, List, ap, subst, arith, length}
 use Rattle.std.proofs.lemmas.List.{take_all}
-use Rattle.std.proofs.lemmas.Result.{IfOk-weaker}
 use Rattle.values.specs.declared.value.Value.{Value}
 use Rattle.values.specs.Columns.{ListedColumns, row_of, rows_of}
 use Rattle.values.proofs.RowLemmas.{length-rows}
@@ -8,17 +7,18 @@ use Rattle.table_schema.specs.Conditions.{all_hold}
 use Rattle.table_schema.specs.declared.query.BoundQuery.{BoundQuery}
 use Rattle.table_schema.specs.declared.query.Conjunct.{Conjunct}
 use Rattle.scan_engine.specs.Places.{rows_at}
-use Rattle.scan_engine.specs.Scanned.{AddsRows, IsOverfull, selected}
+use Rattle.scan_engine.specs.Scanned.{selected}
 use Rattle.coded_columns.specs.Coded.{table_of}
 use Rattle.coded_columns.proofs.CodedLemmas.{counts}
 use Rattle.coded_scan.specs.declared.row_filter.RowFilter.{RowFilter}
+use Rattle.coded_scan.specs.Added.{AddsOrFills}
 use Rattle.coded_scan.specs.RowFilters.{all_let, passing}
 use Rattle.segment_plan.specs.Served.{rest_of, unserved}
 use Rattle.coded_scan.proofs.AddSteps.{passing-rows}
 use Rattle.coded_scan.proofs.adding.add_coded.Goals as goal
 
-pub returns-clause-ok : goal.returns-clause-ok
-returns-clause-ok c =
+pub returns : goal.returns
+returns c =
     let q : BoundQuery = c.args.query.now in
     let rest : BoundQuery = rest_of q c.args.choices.now in
     let b : ListedColumns = table_of c.args.segment.now in
@@ -26,21 +26,7 @@ returns-clause-ok c =
     let same : (at : ℕ) → at < b.count → holds at ≡ all_hold (row_of b.columns at) rest.conjuncts = λ at lt.
     ap (λ (l : List RowFilter). all_let at l) c.as_slice-2.ensures.value ∙ c.in_ok-row_filters.ensures.lets at lt
     ∙ ap (λ (l : List Conjunct). all_hold (row_of b.columns at) (unserved c.args.choices.now l)) c.as_slice.ensures in
-    let many : length (rows_of b) ≡ b.count = length-rows b.count b.columns (counts c.args.segment.now c.requires.coded) in
+    let many : length (rows_of b) ≡ b.count = length-rows b.count b.columns (counts c.args.segment.now) in
     let rows : rows_at b.columns (passing holds 0 b.count) ≡ selected rest (rows_of b) =
-    passing-rows c.args.segment.now rest holds c.requires.coded same b.count (omega arith) ∙ ap (selected rest) (take_all b.count (rows_of b) (omega (arith, many))) in
-    IfOk-weaker c.add_filtered.result _ _ (λ u a. subst (λ (l : List (List Value)). AddsRows q b.count l c.args.table.now c.add_filtered.new.table) rows a) c.add_filtered.ensures.ok
-
-pub returns-clause-full : goal.returns-clause-full
-returns-clause-full c = λ bad.
-    let q : BoundQuery = c.args.query.now in
-    let rest : BoundQuery = rest_of q c.args.choices.now in
-    let b : ListedColumns = table_of c.args.segment.now in
-    let holds : ℕ → Bool = λ at. all_let at c.as_slice-2.result.now in
-    let same : (at : ℕ) → at < b.count → holds at ≡ all_hold (row_of b.columns at) rest.conjuncts = λ at lt.
-    ap (λ (l : List RowFilter). all_let at l) c.as_slice-2.ensures.value ∙ c.in_ok-row_filters.ensures.lets at lt
-    ∙ ap (λ (l : List Conjunct). all_hold (row_of b.columns at) (unserved c.args.choices.now l)) c.as_slice.ensures in
-    let many : length (rows_of b) ≡ b.count = length-rows b.count b.columns (counts c.args.segment.now c.requires.coded) in
-    let rows : rows_at b.columns (passing holds 0 b.count) ≡ selected rest (rows_of b) =
-    passing-rows c.args.segment.now rest holds c.requires.coded same b.count (omega arith) ∙ ap (selected rest) (take_all b.count (rows_of b) (omega (arith, many))) in
-    subst (λ (l : List (List Value)). IsOverfull q l c.args.table.now) rows (c.add_filtered.ensures.full bad)
+    passing-rows c.args.segment.now rest holds same b.count (omega arith) ∙ ap (selected rest) (take_all b.count (rows_of b) (omega (arith, many))) in
+    subst (λ (l : List (List Value)). AddsOrFills q b.count l c.args.table.now c.merge_keys.new.table c.merge_keys.result) rows c.merge_keys.ensures

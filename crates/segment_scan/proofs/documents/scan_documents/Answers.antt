@@ -39,24 +39,23 @@ coded_columns-requires-clause-loaded g c = λ column list lt got.
     let same : get_or c.in-Ok.ids.items column None ≡ get_or c.as_slice-ids.result.now column None = ap (λ (l : List (Option (List ℕ))). get_or l column None) (sym c.as_slice-ids.ensures.value) in
     (c.requires.readable.each column (picked-of (g.S.Shelf.held c.args.shelf.now) c.args.answered.now.head.now column docs (get_or c.args.named.now column false) (get_or c.in-Ok.ids.items column None) list (c.in-Ok.ensures.ids column within) (same ∙ got))).loaded
 
-pub add_coded-requires-clause-coded : goal.add_coded-requires-clause-coded
-add_coded-requires-clause-coded g c =
+pub invariant_of-segment : goal.invariant_of-segment
+invariant_of-segment g c =
     let held = g.S.Shelf.held c.args.shelf.now in
     let head : Seen = c.args.answered.now.head.now in
     let named : List Bool = c.args.named.now in
     let docs : List ℕ = c.args.docs.now in
     let ids : List (Option (List ℕ)) = c.in-Ok.ids.items in
-    let segment : SegmentColumns = record { columns = c.as_slice.result; count = c.len-2.result } in
-    let lengths : length segment.columns.now ≡ length named = ap length c.as_slice.ensures.value ∙ c.in_ok-columns.ensures.count ∙ ap length c.as_slice-ids.ensures.value ∙ c.in-Ok.ensures.count in
+    let lengths : length c.as_slice.result.now ≡ length named = ap length c.as_slice.ensures.value ∙ c.in_ok-columns.ensures.count ∙ ap length c.as_slice-ids.ensures.value ∙ c.in-Ok.ensures.count in
     let within : (column : ℕ) → column < length named → column < length c.as_slice-ids.result.now = λ column lt. omega (arith, lt, ap length c.as_slice-ids.ensures.value, c.in-Ok.ensures.count) in
-    let of : (column : ℕ) → column < length named → IsCodedOf head column (get_or ids column None) (get_or segment.columns.now column None) = λ column lt.
-    subst (λ (l : List (Option (List ℕ))). IsCodedOf head column (get_or l column None) (get_or segment.columns.now column None)) c.as_slice-ids.ensures.value
+    let of : (column : ℕ) → column < length named → IsCodedOf head column (get_or ids column None) (get_or c.as_slice.result.now column None) = λ column lt.
+    subst (λ (l : List (Option (List ℕ))). IsCodedOf head column (get_or l column None) (get_or c.as_slice.result.now column None)) c.as_slice-ids.ensures.value
     (subst (λ (l : List (Option Coded)). IsCodedOf head column (get_or c.as_slice-ids.result.now column None) (get_or l column None)) (sym c.as_slice.ensures.value)
     (c.in_ok-columns.ensures.each column (within column lt))) in
     let picked : (column : ℕ) → column < length named → IsPicked held head column docs (get_or named column false) (get_or ids column None) = λ column lt.
     subst (λ (l : List ℕ). IsPicked held head column l (get_or named column false) (get_or ids column None)) c.runs-runs.ensures.docs (c.in-Ok.ensures.ids column lt) in
     let at_most : length docs ≤ head.rows = docs_few docs head.rows c.runs-runs.ensures.ascends c.requires.within in
-    docs-coded held head named docs ids segment c.len-2.ensures (omega (arith, at_most, c.requires.few_rows)) c.requires.within lengths picked of
+    record { coded = docs-coded held head named docs ids c.len-2.result c.as_slice.result.now c.len-2.ensures (omega (arith, at_most, c.requires.few_rows)) lengths picked of }
 
 pub add_coded-requires-clause-fits : goal.add_coded-requires-clause-fits
 add_coded-requires-clause-fits g c =
@@ -74,16 +73,16 @@ returns-in-Ok-add_coded-clause-ok g c =
     let query = c.args.answered.now.query.now in
     let choices = c.args.choices.now in
     let ids : List (Option (List ℕ)) = c.in-Ok.ids.items in
-    let segment : SegmentColumns = record { columns = c.as_slice.result; count = c.len-2.result } in
-    let lengths : length segment.columns.now ≡ length named = ap length c.as_slice.ensures.value ∙ c.in_ok-columns.ensures.count ∙ ap length c.as_slice-ids.ensures.value ∙ c.in-Ok.ensures.count in
+    let lengths : length c.as_slice.result.now ≡ length named = ap length c.as_slice.ensures.value ∙ c.in_ok-columns.ensures.count ∙ ap length c.as_slice-ids.ensures.value ∙ c.in-Ok.ensures.count in
     let within : (column : ℕ) → column < length named → column < length c.as_slice-ids.result.now = λ column lt. omega (arith, lt, ap length c.as_slice-ids.ensures.value, c.in-Ok.ensures.count) in
-    let of : (column : ℕ) → column < length named → IsCodedOf head column (get_or ids column None) (get_or segment.columns.now column None) = λ column lt.
-    subst (λ (l : List (Option (List ℕ))). IsCodedOf head column (get_or l column None) (get_or segment.columns.now column None)) c.as_slice-ids.ensures.value
+    let of : (column : ℕ) → column < length named → IsCodedOf head column (get_or ids column None) (get_or c.as_slice.result.now column None) = λ column lt.
+    subst (λ (l : List (Option (List ℕ))). IsCodedOf head column (get_or l column None) (get_or c.as_slice.result.now column None)) c.as_slice-ids.ensures.value
     (subst (λ (l : List (Option Coded)). IsCodedOf head column (get_or c.as_slice-ids.result.now column None) (get_or l column None)) (sym c.as_slice.ensures.value)
     (c.in_ok-columns.ensures.each column (within column lt))) in
     let picked : (column : ℕ) → column < length named → IsPicked held head column docs (get_or named column false) (get_or ids column None) = λ column lt.
     subst (λ (l : List ℕ). IsPicked held head column l (get_or named column false) (get_or ids column None)) c.runs-runs.ensures.docs (c.in-Ok.ensures.ids column lt) in
     let at_most : length docs ≤ head.rows = docs_few docs head.rows c.runs-runs.ensures.ascends c.requires.within in
+    let segment : SegmentColumns = record { columns = c.as_slice.result; count = c.len-2.result; coded = docs-coded held head named docs ids c.len-2.result c.as_slice.result.now c.len-2.ensures (omega (arith, at_most, c.requires.few_rows)) lengths picked of } in
     let rows = selected (rest_of query choices) (rows_of (table_of segment)) in
     record {
       rows = rows;
@@ -100,16 +99,16 @@ returns-in-Err-TooManyGroups-clause-full g c = λ bad.
     let query = c.args.answered.now.query.now in
     let choices = c.args.choices.now in
     let ids : List (Option (List ℕ)) = c.in-Ok.ids.items in
-    let segment : SegmentColumns = record { columns = c.as_slice.result; count = c.len-2.result } in
-    let lengths : length segment.columns.now ≡ length named = ap length c.as_slice.ensures.value ∙ c.in_ok-columns.ensures.count ∙ ap length c.as_slice-ids.ensures.value ∙ c.in-Ok.ensures.count in
+    let lengths : length c.as_slice.result.now ≡ length named = ap length c.as_slice.ensures.value ∙ c.in_ok-columns.ensures.count ∙ ap length c.as_slice-ids.ensures.value ∙ c.in-Ok.ensures.count in
     let within : (column : ℕ) → column < length named → column < length c.as_slice-ids.result.now = λ column lt. omega (arith, lt, ap length c.as_slice-ids.ensures.value, c.in-Ok.ensures.count) in
-    let of : (column : ℕ) → column < length named → IsCodedOf head column (get_or ids column None) (get_or segment.columns.now column None) = λ column lt.
-    subst (λ (l : List (Option (List ℕ))). IsCodedOf head column (get_or l column None) (get_or segment.columns.now column None)) c.as_slice-ids.ensures.value
+    let of : (column : ℕ) → column < length named → IsCodedOf head column (get_or ids column None) (get_or c.as_slice.result.now column None) = λ column lt.
+    subst (λ (l : List (Option (List ℕ))). IsCodedOf head column (get_or l column None) (get_or c.as_slice.result.now column None)) c.as_slice-ids.ensures.value
     (subst (λ (l : List (Option Coded)). IsCodedOf head column (get_or c.as_slice-ids.result.now column None) (get_or l column None)) (sym c.as_slice.ensures.value)
     (c.in_ok-columns.ensures.each column (within column lt))) in
     let picked : (column : ℕ) → column < length named → IsPicked held head column docs (get_or named column false) (get_or ids column None) = λ column lt.
     subst (λ (l : List ℕ). IsPicked held head column l (get_or named column false) (get_or ids column None)) c.runs-runs.ensures.docs (c.in-Ok.ensures.ids column lt) in
     let at_most : length docs ≤ head.rows = docs_few docs head.rows c.runs-runs.ensures.ascends c.requires.within in
+    let segment : SegmentColumns = record { columns = c.as_slice.result; count = c.len-2.result; coded = docs-coded held head named docs ids c.len-2.result c.as_slice.result.now c.len-2.ensures (omega (arith, at_most, c.requires.few_rows)) lengths picked of } in
     docs-overfull held query choices head named docs (selected (rest_of query choices) (rows_of (table_of segment))) c.args.groups.now
     (docs-read held head named docs ids segment c.len-2.ensures (omega (arith, at_most, c.requires.few_rows)) c.requires.within lengths picked of query choices)
     (c.add_coded.ensures.full (c.in-Err-TooManyGroups.is ∙ ap Err c.in-Err-TooManyGroups.field-0-is))

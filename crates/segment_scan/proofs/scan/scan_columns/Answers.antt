@@ -20,20 +20,19 @@ coded_columns-requires-clause-loaded g c = λ column list lt got.
     let same : get_or c.in-Ok.ids.items column None ≡ get_or c.as_slice-ids.result.now column None = ap (λ (l : List (Option (List ℕ))). get_or l column None) (sym c.as_slice-ids.ensures.value) in
     (c.requires.readable.each column (named-of (g.S.Shelf.held c.args.shelf.now) c.args.head.now column (get_or c.args.named.now column false) (get_or c.in-Ok.ids.items column None) list (c.in-Ok.ensures.ids column within) (same ∙ got))).loaded
 
-pub add_coded-requires-clause-coded : goal.add_coded-requires-clause-coded
-add_coded-requires-clause-coded g c =
+pub invariant_of-segment : goal.invariant_of-segment
+invariant_of-segment g c =
     let held = g.S.Shelf.held c.args.shelf.now in
     let head : Seen = c.args.head.now in
     let named : List Bool = c.args.named.now in
     let ids : List (Option (List ℕ)) = c.in-Ok.ids.items in
-    let segment : SegmentColumns = record { columns = c.as_slice.result; count = c.rows.result } in
-    let lengths : length segment.columns.now ≡ length named = ap length c.as_slice.ensures.value ∙ c.in_ok-columns.ensures.count ∙ ap length c.as_slice-ids.ensures.value ∙ c.in-Ok.ensures.count in
+    let lengths : length c.as_slice.result.now ≡ length named = ap length c.as_slice.ensures.value ∙ c.in_ok-columns.ensures.count ∙ ap length c.as_slice-ids.ensures.value ∙ c.in-Ok.ensures.count in
     let within : (column : ℕ) → column < length named → column < length c.as_slice-ids.result.now = λ column lt. omega (arith, lt, ap length c.as_slice-ids.ensures.value, c.in-Ok.ensures.count) in
-    let of : (column : ℕ) → column < length named → IsCodedOf head column (get_or ids column None) (get_or segment.columns.now column None) = λ column lt.
-    subst (λ (l : List (Option (List ℕ))). IsCodedOf head column (get_or l column None) (get_or segment.columns.now column None)) c.as_slice-ids.ensures.value
+    let of : (column : ℕ) → column < length named → IsCodedOf head column (get_or ids column None) (get_or c.as_slice.result.now column None) = λ column lt.
+    subst (λ (l : List (Option (List ℕ))). IsCodedOf head column (get_or l column None) (get_or c.as_slice.result.now column None)) c.as_slice-ids.ensures.value
     (subst (λ (l : List (Option Coded)). IsCodedOf head column (get_or c.as_slice-ids.result.now column None) (get_or l column None)) (sym c.as_slice.ensures.value)
     (c.in_ok-columns.ensures.each column (within column lt))) in
-    coded-all held head named ids segment c.rows.ensures c.requires.few_rows lengths c.in-Ok.ensures.ids of
+    record { coded = coded-all held head named ids c.rows.result c.as_slice.result.now c.rows.ensures c.requires.few_rows lengths c.in-Ok.ensures.ids of }
 
 pub add_coded-requires-clause-fits : goal.add_coded-requires-clause-fits
 add_coded-requires-clause-fits g c = subst (λ n. HaveAtMost (most_values - n) (groups_in c.args.groups.now)) (sym c.rows.ensures) c.requires.room.fits
@@ -44,13 +43,13 @@ returns-in-Ok-add_coded-clause-ok g c =
     let head : Seen = c.args.head.now in
     let named : List Bool = c.args.named.now in
     let ids : List (Option (List ℕ)) = c.in-Ok.ids.items in
-    let segment : SegmentColumns = record { columns = c.as_slice.result; count = c.rows.result } in
-    let lengths : length segment.columns.now ≡ length named = ap length c.as_slice.ensures.value ∙ c.in_ok-columns.ensures.count ∙ ap length c.as_slice-ids.ensures.value ∙ c.in-Ok.ensures.count in
+    let lengths : length c.as_slice.result.now ≡ length named = ap length c.as_slice.ensures.value ∙ c.in_ok-columns.ensures.count ∙ ap length c.as_slice-ids.ensures.value ∙ c.in-Ok.ensures.count in
     let within : (column : ℕ) → column < length named → column < length c.as_slice-ids.result.now = λ column lt. omega (arith, lt, ap length c.as_slice-ids.ensures.value, c.in-Ok.ensures.count) in
-    let of : (column : ℕ) → column < length named → IsCodedOf head column (get_or ids column None) (get_or segment.columns.now column None) = λ column lt.
-    subst (λ (l : List (Option (List ℕ))). IsCodedOf head column (get_or l column None) (get_or segment.columns.now column None)) c.as_slice-ids.ensures.value
+    let of : (column : ℕ) → column < length named → IsCodedOf head column (get_or ids column None) (get_or c.as_slice.result.now column None) = λ column lt.
+    subst (λ (l : List (Option (List ℕ))). IsCodedOf head column (get_or l column None) (get_or c.as_slice.result.now column None)) c.as_slice-ids.ensures.value
     (subst (λ (l : List (Option Coded)). IsCodedOf head column (get_or c.as_slice-ids.result.now column None) (get_or l column None)) (sym c.as_slice.ensures.value)
     (c.in_ok-columns.ensures.each column (within column lt))) in
+    let segment : SegmentColumns = record { columns = c.as_slice.result; count = c.rows.result; coded = coded-all held head named ids c.rows.result c.as_slice.result.now c.rows.ensures c.requires.few_rows lengths c.in-Ok.ensures.ids of } in
     record {
       rows = selected c.args.query.now (rows_of (table_of segment));
       adds = subst (λ n. AddsRows c.args.query.now n (selected c.args.query.now (rows_of (table_of segment))) c.args.groups.now c.add_coded.new.table) c.rows.ensures c.in-Ok-add_coded.ensures.ok;
@@ -63,13 +62,13 @@ returns-in-Err-TooManyGroups-clause-full g c = λ bad.
     let head : Seen = c.args.head.now in
     let named : List Bool = c.args.named.now in
     let ids : List (Option (List ℕ)) = c.in-Ok.ids.items in
-    let segment : SegmentColumns = record { columns = c.as_slice.result; count = c.rows.result } in
-    let lengths : length segment.columns.now ≡ length named = ap length c.as_slice.ensures.value ∙ c.in_ok-columns.ensures.count ∙ ap length c.as_slice-ids.ensures.value ∙ c.in-Ok.ensures.count in
+    let lengths : length c.as_slice.result.now ≡ length named = ap length c.as_slice.ensures.value ∙ c.in_ok-columns.ensures.count ∙ ap length c.as_slice-ids.ensures.value ∙ c.in-Ok.ensures.count in
     let within : (column : ℕ) → column < length named → column < length c.as_slice-ids.result.now = λ column lt. omega (arith, lt, ap length c.as_slice-ids.ensures.value, c.in-Ok.ensures.count) in
-    let of : (column : ℕ) → column < length named → IsCodedOf head column (get_or ids column None) (get_or segment.columns.now column None) = λ column lt.
-    subst (λ (l : List (Option (List ℕ))). IsCodedOf head column (get_or l column None) (get_or segment.columns.now column None)) c.as_slice-ids.ensures.value
+    let of : (column : ℕ) → column < length named → IsCodedOf head column (get_or ids column None) (get_or c.as_slice.result.now column None) = λ column lt.
+    subst (λ (l : List (Option (List ℕ))). IsCodedOf head column (get_or l column None) (get_or c.as_slice.result.now column None)) c.as_slice-ids.ensures.value
     (subst (λ (l : List (Option Coded)). IsCodedOf head column (get_or c.as_slice-ids.result.now column None) (get_or l column None)) (sym c.as_slice.ensures.value)
     (c.in_ok-columns.ensures.each column (within column lt))) in
+    let segment : SegmentColumns = record { columns = c.as_slice.result; count = c.rows.result; coded = coded-all held head named ids c.rows.result c.as_slice.result.now c.rows.ensures c.requires.few_rows lengths c.in-Ok.ensures.ids of } in
     overfull-read held c.args.query.now head named (selected c.args.query.now (rows_of (table_of segment))) c.args.groups.now
     (rows-read held head named ids segment c.rows.ensures c.requires.few_rows lengths c.in-Ok.ensures.ids of c.args.query.now)
     (c.add_coded.ensures.full (c.in-Err-TooManyGroups.is ∙ ap Err c.in-Err-TooManyGroups.field-0-is))

@@ -3,4 +3,4 @@ use Rattle.coded_columns.specs.Keyed.{state_in}
 use Rattle.coded_columns.proofs.keyed_rows.KeyedRows.states_at.Given as goal
 
 abbrev pub invariant-loop-own : goal.invariant-loop-own
-invariant-loop-own l = l.row ≡ map (λ own. state_in own.states l.key) (take l.own-index l.self.aggs.items)
+invariant-loop-own l = l.row ≡ map (λ own. state_in own l.key) (take l.own-index l.self.aggs.items)

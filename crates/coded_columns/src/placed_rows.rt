@@ -1,0 +1,14 @@
+//! Some rows of a segment.
+ghost use Rattle.std.specs.Prelude.{◌≤◌, length};
+ghost use Rattle.value_ids.specs.Coding.{AreBelow};
+
+use crate::coded::SegmentColumns;
+
+/// Some rows of a segment by their places.
+#[derive(Clone, Copy)]
+pub struct PlacedRows<'a, 'i> {
+    pub segment: &'a SegmentColumns<'i>,
+    pub places: &'a [u32],
+    ghost within: { AreBelow segment.now.count places.now },
+    ghost few: { length places.now ≤ segment.now.count },
+}

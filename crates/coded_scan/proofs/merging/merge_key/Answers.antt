@@ -1,0 +1,171 @@
+use Rattle.std.proofs.Common.{◌≡◌, ◌∙◌, ◌<◌, ◌≤◌, ◌-◌, [], ℕ, List, Err, length, get_or, ap, refl, sym, subst, arith}
+use Rattle.std.proofs.lemmas.List.{get_or_default, length-map}
+use Rattle.agg_laws.specs.declared.states.AggState.{AggState}
+use Rattle.agg_laws.specs.Numbers.{most_values}
+use Rattle.agg_laws.specs.Rows.{RowFits, kinds_of}
+use Rattle.values.specs.declared.value.Value.{Value}
+use Rattle.values.specs.Columns.{row_of}
+use Rattle.group_table.specs.Groups.{key_of, states_of}
+use Rattle.group_table.specs.Kept.{HaveValues, KeptGroups, groups_in}
+use Rattle.std.specs.FinMap as finite
+use Rattle.coded_columns.specs.Keyed.{size_in}
+use Rattle.scan_engine.specs.Places.{IsRun}
+use Rattle.scan_engine.specs.Scanned.{AddsRows}
+use Rattle.scan_engine.proofs.AddLemmas.{adds_nothing, merged_within}
+use Rattle.scan_engine.proofs.RunLemmas.{adds_run, kinds_states, no_room_for_run, same_fault, states_have}
+use Rattle.coded_columns.specs.Coded.{table_of}
+use Rattle.coded_columns.proofs.KeyedSteps.{in-agg, row-fits, row-states}
+use Rattle.coded_columns.proofs.SlotLemmas.{in_slot-few}
+use Rattle.coded_scan.specs.Passed.{passed, passed_rows, run_of}
+use Rattle.coded_scan.proofs.KeyedMerges.{key-none, key-run, passed-few}
+use Rattle.coded_scan.proofs.merging.merge_key.Goals as goal
+
+pub key_at-requires : goal.key_at-requires
+key_at-requires c =
+    let q = c.args.query.now in
+    let rows = c.args.rows in
+    let segment = rows.segment.now in
+    let places : List ℕ = passed rows in
+    let firsts : List ℕ = c.args.keyed.now.firsts.items in
+    let owns = c.args.keyed.now.aggs.items in
+    let k : ℕ = c.args.key in
+    let first : c.index-first.result.now ≡ get_or firsts k 0 = c.index-first.ensures ∙ get_or_default firsts k c.index-first.result.now 0 c.requires.key in
+    let within = (c.requires.may.holds.firsts k c.requires.key).within (omega (arith, first, c.if-first-eq0.false)) in
+    omega (arith, within, first)
+
+pub states_at-requires : goal.states_at-requires
+states_at-requires c =
+    let q = c.args.query.now in
+    let rows = c.args.rows in
+    let segment = rows.segment.now in
+    let places : List ℕ = passed rows in
+    let firsts : List ℕ = c.args.keyed.now.firsts.items in
+    let owns = c.args.keyed.now.aggs.items in
+    let k : ℕ = c.args.key in
+    let first : c.index-first.result.now ≡ get_or firsts k 0 = c.index-first.ensures ∙ get_or_default firsts k c.index-first.result.now 0 c.requires.key in
+    let holds = c.requires.may.holds in
+    in-agg (length firsts) c.requires.may.keys (passed_rows rows) q.aggs owns (λ own. k < size_in own) holds.states (λ agg own o. omega (arith, c.requires.key, o.size_is))
+
+pub merge_row-requires-clause-kinds : goal.merge_row-requires-clause-kinds
+merge_row-requires-clause-kinds c =
+    let q = c.args.query.now in
+    let rows = c.args.rows in
+    let segment = rows.segment.now in
+    let places : List ℕ = passed rows in
+    let firsts : List ℕ = c.args.keyed.now.firsts.items in
+    let owns = c.args.keyed.now.aggs.items in
+    let k : ℕ = c.args.key in
+    let first : c.index-first.result.now ≡ get_or firsts k 0 = c.index-first.ensures ∙ get_or_default firsts k c.index-first.result.now 0 c.requires.key in
+    let keys : List ℕ = c.requires.may.keys in
+    let holds = c.requires.may.holds in
+    let run : List (List Value) = run_of rows keys k in
+    let row_is : c.in_ok-states.states ≡ states_of q.aggs run = c.in_ok-states.ensures ∙ row-states (length firsts) keys (passed_rows rows) q.aggs owns k holds.states c.requires.key in
+    ap kinds_of row_is ∙ kinds_states q.aggs run ∙ sym c.requires.table.kinds
+
+pub merge_row-requires-clause-values : goal.merge_row-requires-clause-values
+merge_row-requires-clause-values c =
+    let q = c.args.query.now in
+    let rows = c.args.rows in
+    let segment = rows.segment.now in
+    let places : List ℕ = passed rows in
+    let firsts : List ℕ = c.args.keyed.now.firsts.items in
+    let owns = c.args.keyed.now.aggs.items in
+    let k : ℕ = c.args.key in
+    let first : c.index-first.result.now ≡ get_or firsts k 0 = c.index-first.ensures ∙ get_or_default firsts k c.index-first.result.now 0 c.requires.key in
+    let keys : List ℕ = c.requires.may.keys in
+    let holds = c.requires.may.holds in
+    let run : List (List Value) = run_of rows keys k in
+    let row_is : c.in_ok-states.states ≡ states_of q.aggs run = c.in_ok-states.ensures ∙ row-states (length firsts) keys (passed_rows rows) q.aggs owns k holds.states c.requires.key in
+    let some : 0 < get_or firsts k 0 = omega (arith, first, c.if-first-eq0.false) in
+    let values : c.in_ok-own.own ≡ key_of q.groups (row_of (table_of segment).columns (get_or firsts k 0 - 1)) =
+    c.in_ok-own.ensures ∙ ap (λ (gs : List ℕ). key_of gs (row_of (table_of segment).columns (c.index-first.result.now - 1))) c.as_slice-columns.ensures
+    ∙ ap (λ (f : ℕ). key_of q.groups (row_of (table_of segment).columns (f - 1))) first in
+    let r : IsRun q.groups c.in_ok-own.own run = key-run segment q.groups q.aggs keys places c.args.keyed.now holds k c.in_ok-own.own c.requires.key some values in
+    λ any. subst (λ (s : List AggState). HaveValues s) (sym row_is) (states_have q.aggs run (r.some (subst (λ n. 0 < n) c.requires.table.columns any)))
+
+pub merge_row-requires-clause-fits : goal.merge_row-requires-clause-fits
+merge_row-requires-clause-fits c =
+    let q = c.args.query.now in
+    let rows = c.args.rows in
+    let segment = rows.segment.now in
+    let places : List ℕ = passed rows in
+    let firsts : List ℕ = c.args.keyed.now.firsts.items in
+    let owns = c.args.keyed.now.aggs.items in
+    let k : ℕ = c.args.key in
+    let first : c.index-first.result.now ≡ get_or firsts k 0 = c.index-first.ensures ∙ get_or_default firsts k c.index-first.result.now 0 c.requires.key in
+    let keys : List ℕ = c.requires.may.keys in
+    let holds = c.requires.may.holds in
+    let run : List (List Value) = run_of rows keys k in
+    let fits : RowFits c.in_ok-states.states (length run) = subst (λ (s : List AggState). RowFits s (length run)) (sym c.in_ok-states.ensures) (row-fits (length firsts) keys (passed_rows rows) q.aggs owns k holds.states c.requires.key) in
+    let at_most : length run ≤ most_values =
+    omega (arith, in_slot-few k keys (passed_rows rows), length-map places (row_of (table_of segment).columns), passed-few rows, segment.coded.at_most) in
+    merged_within (groups_in c.args.table.now) c.in_ok-own.own c.in_ok-states.states (length run) at_most c.requires.may.fits fits
+
+pub returns-then-first-eq0 : goal.returns-then-first-eq0
+returns-then-first-eq0 c = λ keys holds.
+    let q = c.args.query.now in
+    let rows = c.args.rows in
+    let segment = rows.segment.now in
+    let places : List ℕ = passed rows in
+    let firsts : List ℕ = c.args.keyed.now.firsts.items in
+    let owns = c.args.keyed.now.aggs.items in
+    let k : ℕ = c.args.key in
+    let first : c.index-first.result.now ≡ get_or firsts k 0 = c.index-first.ensures ∙ get_or_default firsts k c.index-first.result.now 0 c.requires.key in
+    let run : List (List Value) = run_of rows keys k in
+    let none : run ≡ [] = key-none segment q.groups q.aggs keys places c.args.keyed.now holds k c.requires.key (omega (arith, first, c.if-first-eq0.true)) in
+    record {
+      ok = subst (λ (l : List (List Value)). AddsRows q (length l) l c.args.table.now c.args.table.now) (sym none) (adds_nothing q 0 c.args.table.now c.requires.table);
+      full = λ bad. absurd cc;
+      filled = λ bad. absurd cc;
+    }
+
+pub returns-in-Err : goal.returns-in-Err
+returns-in-Err c = λ keys holds.
+    let q = c.args.query.now in
+    let rows = c.args.rows in
+    let segment = rows.segment.now in
+    let places : List ℕ = passed rows in
+    let firsts : List ℕ = c.args.keyed.now.firsts.items in
+    let owns = c.args.keyed.now.aggs.items in
+    let k : ℕ = c.args.key in
+    let first : c.index-first.result.now ≡ get_or firsts k 0 = c.index-first.ensures ∙ get_or_default firsts k c.index-first.result.now 0 c.requires.key in
+    let run : List (List Value) = run_of rows keys k in
+    let some : 0 < get_or firsts k 0 = omega (arith, first, c.if-first-eq0.false) in
+    let values : c.in_ok-own.own ≡ key_of q.groups (row_of (table_of segment).columns (get_or firsts k 0 - 1)) =
+    c.in_ok-own.ensures ∙ ap (λ (gs : List ℕ). key_of gs (row_of (table_of segment).columns (c.index-first.result.now - 1))) c.as_slice-columns.ensures
+    ∙ ap (λ (f : ℕ). key_of q.groups (row_of (table_of segment).columns (f - 1))) first in
+    let r : IsRun q.groups c.in_ok-own.own run = key-run segment q.groups q.aggs keys places c.args.keyed.now holds k c.in_ok-own.own c.requires.key some values in
+    record {
+      ok = tt;
+      full = λ bad.
+          let full = c.merge_row.ensures.full.0 (c.in-Err.is ∙ same_fault _ _ bad) in
+          no_room_for_run q run c.in_ok-own.own c.args.table.now r full.0 full.1;
+      filled = λ bad.
+          let full = c.merge_row.ensures.full.0 (c.in-Err.is ∙ same_fault _ _ bad) in
+          let same : c.merge_row.new.self ≡ c.args.table.now = c.in-Err.ensures.err in
+          ap (λ (t : KeptGroups). finite.len (groups_in t)) same ∙ full.1;
+    }
+
+pub returns : goal.returns
+returns c = λ keys holds.
+    let q = c.args.query.now in
+    let rows = c.args.rows in
+    let segment = rows.segment.now in
+    let places : List ℕ = passed rows in
+    let firsts : List ℕ = c.args.keyed.now.firsts.items in
+    let owns = c.args.keyed.now.aggs.items in
+    let k : ℕ = c.args.key in
+    let first : c.index-first.result.now ≡ get_or firsts k 0 = c.index-first.ensures ∙ get_or_default firsts k c.index-first.result.now 0 c.requires.key in
+    let run : List (List Value) = run_of rows keys k in
+    let row_is : c.in_ok-states.states ≡ states_of q.aggs run = c.in_ok-states.ensures ∙ row-states (length firsts) keys (passed_rows rows) q.aggs owns k holds.states c.requires.key in
+    let fits : RowFits c.in_ok-states.states (length run) = subst (λ (s : List AggState). RowFits s (length run)) (sym c.in_ok-states.ensures) (row-fits (length firsts) keys (passed_rows rows) q.aggs owns k holds.states c.requires.key) in
+    let some : 0 < get_or firsts k 0 = omega (arith, first, c.if-first-eq0.false) in
+    let values : c.in_ok-own.own ≡ key_of q.groups (row_of (table_of segment).columns (get_or firsts k 0 - 1)) =
+    c.in_ok-own.ensures ∙ ap (λ (gs : List ℕ). key_of gs (row_of (table_of segment).columns (c.index-first.result.now - 1))) c.as_slice-columns.ensures
+    ∙ ap (λ (f : ℕ). key_of q.groups (row_of (table_of segment).columns (f - 1))) first in
+    let r : IsRun q.groups c.in_ok-own.own run = key-run segment q.groups q.aggs keys places c.args.keyed.now holds k c.in_ok-own.own c.requires.key some values in
+    record {
+      ok = adds_run q (length run) run c.in_ok-own.own c.in_ok-states.states c.args.table.now c.merge_row.new.self c.requires.table r row_is fits c.in_default.ensures.ok;
+      full = λ bad. absurd cc;
+      filled = λ bad. absurd cc;
+    }
