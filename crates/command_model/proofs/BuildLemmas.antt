@@ -157,6 +157,7 @@ apart_counts counted.Columns e f = absurd cc
 apart_counts counted.Rows e f = absurd cc
 apart_counts counted.Segments e f = absurd cc
 apart_counts counted.TreeBytes e f = absurd cc
+apart_counts counted.ScriptBytes e f = absurd cc
 
 apart : {A : Type 0} (line : Note) → rows_refuse line ≡ true → place_refuses line ≡ true → A
 apart note.BadWords e f = absurd cc

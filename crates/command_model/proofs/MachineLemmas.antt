@@ -46,7 +46,7 @@ use Rattle.table_store.proofs.CountLemmas.{names_count}
 use Rattle.table_store.proofs.DropLemmas.{drop_stands}
 use Rattle.table_store.proofs.StandsLemmas.{create_stands, none_there, one_there, segment_stands, table_stands, table_there}
 use Rattle.command_model.specs.Build.{BuildRefuses, HasPlace, IsBuilt, new_rows, segment_rows, table_of as table_in, with_schema, with_settings as settled}
-use Rattle.command_words.specs.Command.{Build, Command, Create, Drop, Listing, Scan, Ask}
+use Rattle.command_words.specs.Command.{Build, Command, Create, Drop, Listing, Open, Scan, Ask}
 use Rattle.command_model.specs.Drop.{DropRefuses, IsDropped, IsMissing}
 use Rattle.command_model.specs.Create.{Made, beside, json_bytes, json_in, new_table, read_by, schema_in, settings_in, table_of, with_settings}
 use Rattle.command_model.proofs.StoredLemmas.{table_segments}
@@ -463,6 +463,7 @@ over_step (Some (Build name csv)) inputs stored answer new before stands builds 
 over_step (Some (Drop name)) inputs stored answer new before stands drops = drop_step stored name answer new before stands drops
 over_step (Some Listing) inputs stored answer new before stands (lists, same) = record { answers = list_step stored answer before stands lists; stands = stays stored before new stands same }
 over_step (Some (Ask about sql)) inputs stored answer new before stands (queries, same) = record { answers = query_step stored about sql answer before stands queries; stands = stays stored before new stands same }
+over_step (Some (Open file)) inputs stored answer new before stands (answers, same) = record { answers = answers; stands = stays stored before new stands same }
 
 pub steps_over : (command : Option Command) (inputs stored : Option Files) (answer : Answer) (new : Option Files) → IfSome inputs (λ files. Over command files stored answer new)
     → WhereStands inputs stored (λ before files. IsStepped (step_of before command files) answer new)

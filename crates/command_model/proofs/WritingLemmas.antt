@@ -1,9 +1,11 @@
 -- Words that may not write.
-use Rattle.std.proofs.Common.{◌≡◌, Option, None, Some, refl, ap, false}
+use Rattle.std.proofs.Common.{◌≡◌, ◌∷◌, [], ℕ, Bool, List, Option, None, Some, refl, ap, true, false}
+use Rattle.std.specs.Prelude.{codes}
+use Rattle.std.specs.Str.{bytes_eq}
 use Rattle.outside.specs.Files.{Files}
 use Rattle.outside.specs.Seen.{Seen}
 use Rattle.table_store.specs.State.{State}
-use Rattle.command_words.specs.Command.{Ask, Build, Command, Create, Drop, Listing, Scan, command_of, writes}
+use Rattle.command_words.specs.Command.{Ask, Build, Command, Create, Drop, Listing, Open, Scan, asks_write, by_verb, command_of, may_write, writes}
 use Rattle.command_model.specs.Profile.{profile}
 use Rattle.command_model.specs.Step.{step_of}
 use Rattle.command_model.specs.Touched.{Keeps}
@@ -18,9 +20,21 @@ step_leaves state (Some (Build name csv)) inputs quiet = cc
 step_leaves state (Some (Drop name)) inputs quiet = cc
 step_leaves state (Some Listing) inputs quiet = refl
 step_leaves state (Some (Ask about sql)) inputs quiet = refl
+step_leaves state (Some (Open file)) inputs quiet = refl
+
+-- words of which no write is said spell no command that writes
+by_test : (test : Bool) (words : List (List ℕ)) (file : List ℕ) → asks_write (by_verb test words file) ≡ false → writes (command_of words) ≡ false
+by_test true words file quiet = absurd cc
+by_test false words file quiet = quiet
+
+quiet_words : (words : List (List ℕ)) → may_write words ≡ false → writes (command_of words) ≡ false
+quiet_words [] quiet = quiet
+quiet_words (verb ∷ []) quiet = quiet
+quiet_words (verb ∷ file ∷ []) quiet = by_test (bytes_eq verb (codes "script")) (verb ∷ file ∷ []) file quiet
+quiet_words (verb ∷ file ∷ more ∷ rest) quiet = quiet
 
 pub leaves_state : LeavesState
-leaves_state state words inputs quiet = step_leaves state (command_of words) inputs quiet
+leaves_state state words inputs quiet = step_leaves state (command_of words) inputs (quiet_words words quiet)
 
 -- nor is its row one that writes
 keeps_depot : (command : Option Command) (old new : Seen) → writes command ≡ false → Keeps (profile command).store old new → Unwritten old new
@@ -31,6 +45,7 @@ keeps_depot (Some (Build name csv)) old new quiet kept = cc
 keeps_depot (Some (Drop name)) old new quiet kept = cc
 keeps_depot (Some Listing) old new quiet kept = record { held = kept.held; parts = kept.parts; writes = kept.writes }
 keeps_depot (Some (Ask about sql)) old new quiet kept = record { held = kept.held; parts = kept.parts; writes = kept.writes }
+keeps_depot (Some (Open file)) old new quiet kept = record { held = ap (λ s. s.held) kept; parts = ap (λ s. s.parts) kept; writes = ap (λ s. s.write_faults) kept }
 
 pub leaves_depot : LeavesDepot
-leaves_depot words old new quiet touched = keeps_depot (command_of words) old.depot new.depot quiet touched.depot
+leaves_depot words old new quiet touched = keeps_depot (command_of words) old.depot new.depot (quiet_words words quiet) touched.depot

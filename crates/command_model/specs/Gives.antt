@@ -1,6 +1,7 @@
 -- What the functions below a command's own answer.
 use Rattle.std.specs.Prelude.{◌≡◌, ◌⊎◌, ◌++◌, ◌<◌, true, false, ℕ, List, [], codes, get_or, length, Option, Result, Ok, Err, IsErrAnd, IfSome, IfErr, IfOk}
 use Rattle.std.specs.FinMap as finite
+use Rattle.std.specs.Str.{is_utf8}
 use Rattle.outside.specs.Counts.{Rose}
 use Rattle.outside.specs.Files.{Files, Has, Lacks, with_file, without_file}
 use Rattle.outside.specs.Whole.{IsTooLong}
@@ -74,6 +75,12 @@ StopsRead file what limit held Failing (stop.Refused line) =
 StopsRead file what limit held Failing (stop.Fault fault.Read) = Failing
 StopsRead file what limit held Failing (stop.Fault fault.Write) = ⊥
 StopsRead file what limit held Failing (stop.Fault fault.Memory) = Unit {0}
+
+-- the bytes of a script are UTF-8, and this is its text; or they are none; or memory ran out
+abbrev pub OpensBytes : List ℕ → Result (List ℕ) Stop → Type 0
+OpensBytes bytes (Ok text) = (text ≡ bytes) × (is_utf8 bytes ≡ true)
+OpensBytes bytes (Err (stop.Refused line)) = (line ≡ note.BadWords) × (is_utf8 bytes ≡ false)
+OpensBytes bytes (Err (stop.Fault why)) = why ≡ fault.Memory
 
 -- it is not known whether there is a table: a look failed, or memory ran out
 abbrev pub StopsLook : Type 0 → Stop → Type 0

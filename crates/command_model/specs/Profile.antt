@@ -5,7 +5,7 @@ use Rattle.csv_ingest.specs.Blocks as csv
 use Rattle.segment_file.specs.Names.{file_of}
 use Rattle.segment_file.specs.Trees as trees
 use Rattle.table_store.specs.TableFile.{table_name, text_limit}
-use Rattle.command_words.specs.Command.{Build, Command, Create, Drop, Listing, Scan, Ask}
+use Rattle.command_words.specs.Command.{Build, Command, Create, Drop, Listing, Open, Scan, Ask}
 use Rattle.command_words.specs.declared.about.About.{About}
 use Rattle.command_words.specs.declared.about.About.TheVariants.{Plans, Rows, RowsAndPlans}
 use Rattle.command_words.specs.declared.note.Counted.{Counted}
@@ -20,6 +20,10 @@ csv_limit = csv.text_limit
 -- the most bytes that the nodes and documents of a star-tree may take
 abbrev pub tree_limit : ℕ
 tree_limit = trees.tree_limit
+
+-- the most bytes that a script may have
+abbrev pub script_limit : ℕ
+script_limit = 16777216
 
 -- which stored files are opened: none, that of the table, or that and those of segments
 pub data Opens : Type 0 where
@@ -52,6 +56,7 @@ abbrev pub scan_counts : Counted → Bool
 scan_counts counted.JsonBytes = false
 scan_counts counted.Segments = false
 scan_counts counted.TreeBytes = false
+scan_counts counted.ScriptBytes = false
 scan_counts what = true
 
 -- the refusals of `scan`
@@ -145,6 +150,18 @@ sql_refuses about other = false
 abbrev pub query_refuses : About → Note → Bool
 query_refuses about line = store_refuses line || sql_refuses about line
 
+-- the limit of a script
+abbrev pub script_counts : Counted → Bool
+script_counts counted.ScriptBytes = true
+script_counts what = false
+
+-- the refusals of a script that is opened
+abbrev pub script_refuses : Note → Bool
+script_refuses note.BadWords = true
+script_refuses (note.NoInput file) = true
+script_refuses (note.TooLarge what limit) = script_counts what
+script_refuses other = false
+
 -- the row of each command; words that spell none have one too
 abbrev pub profile : Option Command → Profile
 profile None = record { files = []; store = Apart; replies = false; refuses = words_refuse }
@@ -186,6 +203,12 @@ profile (Some (Ask about sql)) = record {
   store = Looks StoreFiles;
   replies = true;
   refuses = query_refuses about;
+}
+profile (Some (Open file)) = record {
+  files = (file, script_limit) ∷ [];
+  store = Apart;
+  replies = true;
+  refuses = script_refuses;
 }
 
 -- whether a command can end with a read fault

@@ -1,5 +1,5 @@
 -- What a command did before anything is given to a stream.
-use Rattle.std.specs.Prelude.{◌≡◌, ◌⊎◌, ℕ, Bool, true, false, List, Option, Some, None, Result, Ok, Err, IfSome, IsSomeAnd}
+use Rattle.std.specs.Prelude.{◌≡◌, ◌⊎◌, ℕ, Bool, true, false, List, [], Option, Some, None, Result, Ok, Err, IfSome, IsSomeAnd}
 use Rattle.std.specs.FinMap as map
 use Rattle.outside.specs.Counts.{Rose}
 use Rattle.outside.specs.Files.{Files, Has, Lacks, with_file}
@@ -8,13 +8,13 @@ use Rattle.table_store.specs.Stands.{Stands}
 use Rattle.table_store.specs.Segments.{HasSegment, IsFull, LacksSegment, most_segments}
 use Rattle.table_store.specs.TableFile.{table_file, table_name, text_limit}
 use Rattle.command_model.specs.Build.{BuildRefuses, IsBuilt}
-use Rattle.command_words.specs.Command.{Build, Command, Create, Drop, Listing, Scan, Ask}
+use Rattle.command_words.specs.Command.{Build, Command, Create, Drop, Listing, Open, Scan, Ask}
 use Rattle.command_model.specs.Consulted.{AtMostRead, Consulted}
 use Rattle.command_model.specs.Create.{Made, new_table}
 use Rattle.command_model.specs.Drop.{DropRefuses, IsDropped}
 use Rattle.command_model.specs.Profile.{may_read, place_refuses, profile}
 use Rattle.command_model.specs.Queried.{IsQueried, IsWrongImage, QueryRefuses}
-use Rattle.command_model.specs.Step.{After, Answer, Refuses, Replies, create_answer, scan_answer, step_of}
+use Rattle.command_model.specs.Step.{After, Answer, Refuses, Replies, create_answer, scan_answer, script_answer, step_of}
 use Rattle.command_model.specs.Stored.{IsListed, IsWrongSegment, IsWrongTable, SegmentsRefuse}
 use Rattle.command_model.specs.Touched.{ReadsFront, Touched}
 use Rattle.command_model.specs.World.{Devices}
@@ -93,6 +93,8 @@ Over (Some (Drop name)) inputs old answer new = IfSome old (λ files. Drops name
 Over (Some Listing) inputs old answer new = IfSome old (λ files. Lists files answer) × (new ≡ old)
 Over (Some (Ask about sql)) inputs old answer new = IfSome old
     (λ files. Queries about sql files answer) × (new ≡ old)
+Over (Some (Open file)) inputs old answer new = (answer ≡ script_answer file
+    (map.get inputs file)) × (new ≡ old)
 
 -- ---- refusals
 
@@ -110,6 +112,8 @@ Finds (Some (Drop name)) inputs stored line = ⊥
 Finds (Some Listing) inputs stored line = ⊥
 Finds (Some (Ask about sql)) inputs stored line = IfSome stored
     (λ files. QueryRefuses about sql files line)
+Finds (Some (Open file)) inputs stored line = script_answer file (map.get inputs file)
+    ≡ Refuses line
 
 -- a published file is not what it stands for; only `list`, `query`, `explain` and `stats` look at
 -- those of segments
@@ -183,6 +187,11 @@ HasCause command old new fault.Memory = Unit {0}
 pub record Failed (command : Option Command) (old new : Devices) (why : Fault) : Type 0 where
   pub kept : new.depot.held ≡ old.depot.held
   pub cause : HasCause command old new why
+
+-- a script was opened: nothing is replied so far
+abbrev pub opening : Result (List ℕ) Stop → Result (List ℕ) Stop
+opening (Ok text) = Ok []
+opening (Err why) = Err why
 
 -- how a command ended, by its result
 abbrev pub Ended : Option Command → Devices → Devices → Result (List ℕ) Stop → Type 0

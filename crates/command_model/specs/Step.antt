@@ -1,6 +1,7 @@
 -- What one command answers where no device fails and there is memory.
 use Rattle.std.specs.Prelude.{ℕ, Bool, true, false, nat_lt, List, [], ◌++◌, length, codes, is_some, Option, Some, None, Result, Ok, Err, if◌then◌else◌}
 use Rattle.std.specs.FinMap as map
+use Rattle.std.specs.Str.{is_utf8}
 use Rattle.outside.specs.Files.{Files}
 use Rattle.values.specs.declared.value.Value.{Value}
 use Rattle.table_schema.specs.declared.table.Table.{Table}
@@ -8,7 +9,7 @@ use Rattle.table_store.specs.Stands.{segment_of}
 use Rattle.table_store.specs.State.{Segments, State, Texts, NoTable, HasTable}
 use Rattle.table_store.specs.TableFile.{table_name}
 use Rattle.command_model.specs.Build.{built_text, new_rows, table_of}
-use Rattle.command_words.specs.Command.{Build, Command, Create, Drop, Listing, Scan, Ask, command_of}
+use Rattle.command_words.specs.Command.{Build, Command, Create, Drop, Listing, Open, Scan, Ask, command_of}
 use Rattle.command_model.specs.Create.{Made, new_table}
 use Rattle.command_model.specs.Drop.{dropped_text}
 use Rattle.sql_reply.specs.SqlReply.{SqlReply}
@@ -17,7 +18,7 @@ use Rattle.command_model.specs.Stored.{listed}
 use Rattle.command_model.specs.Queried.{reply_about}
 use Rattle.command_words.specs.Notes.{sql_note, status_of, note_text}
 use Rattle.command_model.specs.ScanNotes.{scan_note}
-use Rattle.command_model.specs.Profile.{csv_limit}
+use Rattle.command_model.specs.Profile.{csv_limit, script_limit}
 use Rattle.command_words.specs.declared.about.About.{About}
 use Rattle.command_words.specs.declared.note.Counted.TheVariants as counted
 use Rattle.command_words.specs.declared.note.Note.{Note}
@@ -56,6 +57,18 @@ scan_answer file sql None = Refuses (note.NoInput file)
 scan_answer file sql (Some bytes) =
     if nat_lt csv_limit (length bytes) then Refuses (note.TooLarge counted.CsvBytes csv_limit)
     else answered (text_reply sql bytes)
+
+-- a script is opened where its bytes are UTF-8, and nothing is replied so far
+abbrev pub opened : Bool → Answer
+opened true = Replies []
+opened false = Refuses note.BadWords
+
+-- the answer to the opening of a script, by the bytes of its file, if there is one
+unfoldable pub script_answer : List ℕ → Option (List ℕ) → Answer
+script_answer file None = Refuses (note.NoInput file)
+script_answer file (Some bytes) =
+    if nat_lt script_limit (length bytes)
+    then Refuses (note.TooLarge counted.ScriptBytes script_limit) else opened (is_utf8 bytes)
 
 -- the answer to `create`, by whether there is a table, and by what its files make
 abbrev pub create_answer : Bool → Made → Answer
@@ -164,6 +177,10 @@ step_of state (Some (Drop name)) inputs = dropped state name
 step_of state (Some Listing) inputs = record { answer = list_answer state; state = state }
 step_of state (Some (Ask about sql)) inputs = record {
   answer = query_answer about state sql;
+  state = state;
+}
+step_of state (Some (Open file)) inputs = record {
+  answer = script_answer file (map.get inputs file);
   state = state;
 }
 

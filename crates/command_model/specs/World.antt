@@ -22,6 +22,15 @@ pub record Stage (K : Type 0) : Type 0 where
 abbrev pub World : Type 0
 World = Stage (Unit {0})
 
+-- the same with this kept beside it
+abbrev pub beside : {A B : Type 0} → B → Stage A → Stage B
+beside kept stage = record {
+  devices = stage.devices;
+  out = stage.out;
+  notes = stage.notes;
+  kept = kept;
+}
+
 -- the devices, through the members of their traits
 abbrev pub devices : {A B : Type 0} → shelf.Ghosts A → shelf.Ghosts B → A → B → Devices
 devices I D inputs depot = record { inputs = seen I inputs; depot = seen D depot }

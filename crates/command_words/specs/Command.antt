@@ -13,6 +13,8 @@ pub data Command : Type 0 where
   Drop : (name : List ℕ) → Command
   Listing : Command
   Ask : (about : About) (sql : List ℕ) → Command
+  -- the opening of a script, which no words of a command spell
+  Open : (file : List ℕ) → Command
 
 -- the command that these words spell, if they spell one
 abbrev pub command_of : List (List ℕ) → Option Command
@@ -38,8 +40,31 @@ writes (Some (Drop name)) = true
 writes (Some (Scan file sql)) = false
 writes (Some Listing) = false
 writes (Some (Ask about sql)) = false
+writes (Some (Open file)) = false
 writes None = false
 
--- whether the command that these words spell may write the store
+-- ---- scripts
+
+-- what the words of a call ask for: the commands of a file, or one command, if they spell one
+pub data Request : Type 0 where
+  Script : (file : List ℕ) → Request
+  One : (command : Option Command) → Request
+
+-- two words are a script or one command
+abbrev pub by_verb : Bool → List (List ℕ) → List ℕ → Request
+by_verb true words file = Script file
+by_verb false words file = One (command_of words)
+
+-- what these words ask for
+abbrev pub call_of : List (List ℕ) → Request
+call_of (verb ∷ file ∷ []) = by_verb (bytes_eq verb (codes "script")) (verb ∷ file ∷ []) file
+call_of words = One (command_of words)
+
+-- whether what is asked for may write the store; a script may
+abbrev pub asks_write : Request → Bool
+asks_write (Script file) = true
+asks_write (One command) = writes command
+
+-- whether what these words ask for may write the store
 abbrev pub may_write : List (List ℕ) → Bool
-may_write words = writes (command_of words)
+may_write words = asks_write (call_of words)

@@ -83,6 +83,7 @@ counted_text counted.Columns = codes "columns"
 counted_text counted.Rows = codes "rows"
 counted_text counted.Segments = codes "segments"
 counted_text counted.TreeBytes = codes "tree bytes"
+counted_text counted.ScriptBytes = codes "script bytes"
 
 -- the note line of a refusal
 abbrev pub note_text : Note → List ℕ

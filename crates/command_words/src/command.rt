@@ -1,6 +1,6 @@
 //! The words of a command.
-ghost use Rattle.std.specs.Prelude.{◌≡◌, map, option_map, string_bytes, IfSome};
-ghost use Rattle.command_words.specs.Command.{command_of, may_write};
+ghost use Rattle.std.specs.Prelude.{◌≡◌, map, option_map, string_bytes, IfSome, MatchOption};
+ghost use Rattle.command_words.specs.Command.{One, Script, call_of, command_of, may_write};
 ghost use Rattle.command_words.specs.CommandView.{IsNamed, command_view};
 
 use crate::about::About;
@@ -61,11 +61,28 @@ pub fn read_command(words: &[String]) -> Option<Command<'_>>
     None
 }
 
-/// Whether the command that these words spell may write the store. Words of which it says no leave
-/// each store as it is.
+/// The file of the script that these words ask for, if they ask for one.
+pub fn script_file(words: &[String]) -> Option<&str>
+    ensures { MatchOption result (call_of (map string_bytes words.now)
+        ≡ One (command_of (map string_bytes words.now)))
+        (λ file. call_of (map string_bytes words.now) ≡ Script file.now) }
+{
+    if let [verb, file] = words {
+        if verb.as_str().as_bytes() == b"script".as_slice() {
+            return Some(file.as_str());
+        }
+    }
+    None
+}
+
+/// Whether what these words ask for may write the store. Words of which it says no leave each store
+/// as it is.
 pub fn may_write(words: &[String]) -> bool
     ensures { result ≡ may_write (map string_bytes words.now) }
 {
+    if script_file(words).is_some() {
+        return true;
+    }
     match read_command(words) {
         Some(Command::Create(_, _) | Command::Build(_, _) | Command::Drop(_)) => true,
         Some(Command::Scan(_, _) | Command::List | Command::Ask(_, _)) | None => false,

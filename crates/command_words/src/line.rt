@@ -189,5 +189,6 @@ fn counted_text(what: Counted) -> &'static [u8]
         Counted::Rows => b"rows",
         Counted::Segments => b"segments",
         Counted::TreeBytes => b"tree bytes",
+        Counted::ScriptBytes => b"script bytes",
     }
 }

@@ -3,3 +3,5 @@ pub mod ReadLemmas
 pub mod ListLemmas
 pub mod QueryLemmas
 pub mod DropLemmas
+pub mod ScriptLemmas
+pub mod IdleLemmas

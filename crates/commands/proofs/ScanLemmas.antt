@@ -25,7 +25,7 @@ use Rattle.command_words.specs.declared.stop.Stop.{Stop}
 use Rattle.command_words.specs.declared.stop.Stop.TheVariants as stop
 use Rattle.command_model.proofs.MachineLemmas.{steps_over}
 
-told_each : (held : Option Files) (P Q : Files → Type 0) → ((files : Files) → P files → Q files) → IfSome held P → IfSome held Q
+pub told_each : (held : Option Files) (P Q : Files → Type 0) → ((files : Files) → P files → Q files) → IfSome held P → IfSome held Q
 told_each None P Q f h = tt
 told_each (Some files) P Q f h = f files h
 

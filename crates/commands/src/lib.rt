@@ -4,6 +4,8 @@
 pub mod build;
 pub mod create;
 pub mod drop;
+pub mod laws;
 pub mod list;
 pub mod query;
 pub mod scan;
+pub mod script;

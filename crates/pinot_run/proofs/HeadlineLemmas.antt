@@ -6,16 +6,19 @@ use Rattle.outside.specs.Seen.{Seen}
 use Rattle.outside.specs.Sink.{AppendsPrefix}
 use Rattle.table_store.specs.Stands.{Stands}
 use Rattle.table_store.specs.State.{HasTable, NoTable, State}
-use Rattle.command_words.specs.Command.{Command, command_of}
+use Rattle.command_words.specs.Command.{Command, call_of}
 use Rattle.command_words.specs.declared.status.Status.{Status}
 use Rattle.command_words.specs.declared.status.Status.TheVariants as status
 use Rattle.command_model.specs.Ran.{Acted, IsStepped}
 use Rattle.command_model.specs.Step.{Answer, step_of, text_of}
-use Rattle.command_model.specs.World.{World}
+use Rattle.command_model.specs.Profile.{profile}
+use Rattle.command_model.specs.World.{Devices, World, beside}
 use Rattle.pinot_run.specs.Calls.{AreCalls, Call}
-use Rattle.pinot_run.specs.Headline.{FromEmpty, Headline, Leads, LeavesOf, Proceeds, ReadsOf}
+use Rattle.pinot_run.specs.Headline.{FromEmpty, Headline, LeavesOf, Moves, Proceeds, ReadsOf}
 use Rattle.pinot_run.specs.Promise.{IsAnswered, IsGiven, IsUndone, Leaves, Promise}
-use Rattle.pinot_run.proofs.LawLemmas.{at, told_one}
+use Rattle.pinot_run.specs.Script.{Does}
+use Rattle.pinot_run.proofs.LawLemmas.{at, same_held, told_one}
+use Rattle.pinot_run.proofs.ScriptLifts.{does_lift}
 use Rattle.pinot_run.proofs.StateReads.{segments_read}
 
 if_told : (o : Option Files) (P : Files → Type 0) → ((files : Files) → o ≡ Some files → P files) → IfSome o P
@@ -27,33 +30,38 @@ module _ (command : Option Command) (files kept : Files) (state : State) (old ne
   abbrev StandFor : State → Type 0
   StandFor next = IsSomeAnd new.devices.depot.held (λ held. Stands held next)
 
-  -- a state that the call leaves, and that the store then stands for
+  -- a state that the command leaves, and that the store then stands for
   abbrev Next : Status → Type 0
-  Next ended = (next : State) × LeavesOf (step_of state command files) state ended old new next × StandFor next
+  Next ended = (next : State) × LeavesOf (step_of state command files) (beside state old) ended (beside next new) × StandFor next
 
   undone_stands : IsUndone old new → StandFor state
   undone_stands undone = subst (λ (o : Option Files). IsSomeAnd o (λ held. Stands held state)) (sym (undone.stored ∙ stored)) stands
+
+  -- nothing was done to the state either
+  undone : IsUndone old new → IsUndone (beside state old) (beside state new)
+  undone u = record { kept = refl; stored = u.stored; out = u.out }
 
   stepped : (answer : Answer) → Acted command old.devices new.devices answer → IsStepped (step_of state command files) answer new.devices.depot.held
   stepped answer acted = at old.devices.inputs.held old.devices.depot.held (λ s fs. IsStepped (step_of s command fs) answer new.devices.depot.held) state files kept inputs stored stands acted.step
 
   -- all of the step
   abbrev Whole : Status → Type 0
-  Whole ended = IsGiven (step_of state command files).answer ended old new × StandFor (step_of state command files).state
+  Whole ended = IsGiven (step_of state command files).answer ended (beside state old) (beside (step_of state command files).state new) × StandFor (step_of state command files).state
 
   answered : (ended : Status) → IsAnswered command old ended new → Whole ended
   answered ended is =
       let step = stepped is.answer is.acted in
-      (subst (λ a. IsGiven a ended old new) step.answers is.given, step.stands)
+      let given : IsGiven (step_of state command files).answer ended old new = subst (λ a. IsGiven a ended old new) step.answers is.given in
+      (record { ended_so = given.ended_so; out = given.out; notes = given.notes }, step.stands)
 
   next_stands : (ended : Status) → Leaves command old ended new → Next ended
-  next_stands status.ReadFault l = (state, (l.1, l.2, refl), undone_stands l.2)
-  next_stands status.WriteFault (inl l) = (state, inl (l.0, l.1, refl), undone_stands l.1)
+  next_stands status.ReadFault l = (state, (l.1, undone l.2), undone_stands l.2)
+  next_stands status.WriteFault (inl l) = (state, inl (l.0, undone l.1), undone_stands l.1)
   next_stands status.WriteFault (inr cut) =
       let step = stepped cut.answer cut.acted in
       let prefix : AppendsPrefix (text_of (step_of state command files).answer) old.out.written new.out.written = subst (λ a. AppendsPrefix (text_of a) old.out.written new.out.written) step.answers cut.prefix in
       ((step_of state command files).state, inr (record { failed = cut.failed; prefix = prefix }, refl), step.stands)
-  next_stands status.NoMemory l = (state, (l, refl), undone_stands l)
+  next_stands status.NoMemory l = (state, undone l, undone_stands l)
   next_stands status.Done l = let w = answered status.Done l in ((step_of state command files).state, (w.0, refl), w.1)
   next_stands status.BadWords l = let w = answered status.BadWords l in ((step_of state command files).state, (w.0, refl), w.1)
   next_stands status.NoInput l = let w = answered status.NoInput l in ((step_of state command files).state, (w.0, refl), w.1)
@@ -69,22 +77,52 @@ module _ (command : Option Command) (files kept : Files) (state : State) (old ne
   next_stands status.NotASegment l = let w = answered status.NotASegment l in ((step_of state command files).state, (w.0, refl), w.1)
   next_stands status.TooManyGroups l = let w = answered status.TooManyGroups l in ((step_of state command files).state, (w.0, refl), w.1)
 
-reads_of : (kept : Files) (state : State) (call : Call) → call.old.devices.depot.held ≡ Some kept → Stands kept state → Promise (command_of call.words) call.old call.ended call.new → ReadsOf state call
-reads_of kept NoTable call told stands p = tt
-reads_of kept (HasTable texts segments) call told stands p = λ table accepted. segments_read (command_of call.words) call.old call.new call.ended p kept texts segments table told stands accepted
+reads_of : (kept : Files) (state : State) (command : Option Command) (old : World) (ended : Status) (new : World) → old.devices.depot.held ≡ Some kept → Stands kept state → Promise command old ended new → ReadsOf state command ended old.devices new.devices
+reads_of kept NoTable command old ended new told stands p = tt
+reads_of kept (HasTable texts segments) command old ended new told stands p = λ table accepted. segments_read command old new ended p kept texts segments table told stands accepted
+
+-- ---- from one state to the next
+
+-- the input files are told, and the stored ones stand for a state
+pub record StandsIn (files : Files) (now : World) (state : State) : Type 0 where
+  pub inputs : now.devices.inputs.held ≡ Some files
+  pub kept : Files
+  pub stored : now.devices.depot.held ≡ Some kept
+  pub stands : Stands kept state
+
+pub stands_still : (files : Files) (old new : World) (state : State) → new.devices ≡ old.devices → StandsIn files old state → StandsIn files new state
+stands_still files old new state same i = record {
+  inputs = ap (λ (d : Devices). d.inputs.held) same ∙ i.inputs;
+  kept = i.kept;
+  stored = ap (λ (d : Devices). d.depot.held) same ∙ i.stored;
+  stands = i.stands;
+}
+
+-- a command that kept its promise leads on
+pub moves_on : (files : Files) (command : Option Command) (old : World) (state : State) (ended : Status) (new : World) → StandsIn files old state → Promise command old ended new
+    → (next : State) × Moves files command (beside state old) ended (beside next new) × StandsIn files new next
+moves_on files command old state ended new i p =
+    let (next, leaves, stood) = next_stands command files i.kept state old new i.inputs i.stored i.stands ended p.leaves in
+    let (held, is, stands) = told_one new.devices.depot.held (λ k. Stands k next) stood in (
+      next,
+      record {
+        leaves = leaves;
+        stands = stood;
+        noted = p.notes;
+        counted = record { inputs = p.counted.inputs; depot_reads = p.counted.depot_reads; depot_writes = p.counted.depot_writes; out = p.counted.out; out_later = p.counted.out_later };
+        reads = reads_of i.kept state command old ended new i.stored i.stands p;
+      },
+      record { inputs = same_held (profile command).files old.devices.inputs new.devices.inputs p.touched.inputs ∙ i.inputs; kept = held; stored = is; stands = stands },
+    )
 
 pub headline : Headline
 headline kept state depot [] told stands are = tt
-headline kept state depot (call ∷ calls) told stands (found, promise, later) =
+headline kept state depot (call ∷ calls) told stands (found, does, later) =
     let here : call.old.devices.depot.held ≡ Some kept = ap (λ (d : Seen). d.held) found ∙ told in
-    if_told call.old.devices.inputs.held (λ files. (next : State) × Leads files state call next × Proceeds next calls)
+    if_told call.old.devices.inputs.held (λ files. (next : State) × Does (Moves files) (call_of call.words) (beside state call.old) call.ended (beside next call.new) × Proceeds next calls)
     (λ files inputs.
-    let (next, leaves, stood) = next_stands (command_of call.words) files kept state call.old call.new inputs here stands call.ended promise.leaves in
-    let (held, is, stands') = told_one call.new.devices.depot.held (λ k. Stands k next) stood in (
-      next,
-      record { leaves = leaves; stands = stood; noted = promise.notes; counted = promise.counted; reads = reads_of kept state call here stands promise },
-      headline held next call.new.devices.depot calls is stands' later,
-    ))
+    let (next, moves, i) = does_lift Promise (Moves files) (StandsIn files) (moves_on files) (stands_still files) (call_of call.words) call.old state call.ended call.new (record { inputs = inputs; kept = kept; stored = here; stands = stands }) does in
+    (next, moves, headline i.kept next call.new.devices.depot calls i.stored i.stands later))
 
 pub from_empty : FromEmpty
 from_empty depot calls told are = headline map.empty NoTable depot calls told (λ name. map.get-empty name_order name) are

@@ -19,7 +19,7 @@ use Rattle.table_store.specs.State.{HasTable, NoTable, Segment, Segments, State,
 use Rattle.table_store.proofs.DropLemmas.{got_left, got_none}
 use Rattle.table_store.proofs.FilesLemmas.{other_name}
 use Rattle.table_store.proofs.NameLemmas.{is_name}
-use Rattle.command_words.specs.Command.{Ask, Build, Command, Create, Drop, Listing, Scan, command_of}
+use Rattle.command_words.specs.Command.{Ask, Build, Command, Create, Drop, Listing, Open, Scan}
 use Rattle.command_words.specs.declared.about.About.TheVariants.{Rows, RowsAndPlans}
 use Rattle.command_words.specs.declared.note.Note.{Note}
 use Rattle.command_words.specs.declared.status.Status.{Status}
@@ -28,10 +28,9 @@ use Rattle.command_model.specs.Build.{new_rows, table_of}
 use Rattle.command_model.specs.Create.{Made, new_table}
 use Rattle.command_model.specs.Queried.{all_rows, each_rows, rows_in}
 use Rattle.command_model.specs.Step.{After, Replies, created, rows_answer, sql_answered, step_of, text_of, with_rows, with_table, without_segment}
-use Rattle.command_model.specs.World.{World}
+use Rattle.command_model.specs.World.{Stage}
 use Rattle.command_model.proofs.MachineLemmas.{read_as}
-use Rattle.pinot_run.specs.Calls.{Call}
-use Rattle.pinot_run.specs.Headline.{Answers, AnswersRows, Ingests, IsIngested, IsOfMoves, IsOn, Leads, LeavesOf, Move, Reaches, RowsAreIngested}
+use Rattle.pinot_run.specs.Headline.{Answers, AnswersRows, Ingests, IsIngested, IsOfMoves, IsOn, LeavesOf, Move, Moves, Reaches, RowsAreIngested}
 
 -- ---- what a query prints
 
@@ -67,36 +66,36 @@ answers texts segments table sql accepted =
 -- ---- what a call does to a state
 
 -- the table is made
-record MakesTable (from to : State) : Type 0 where
-  texts : Texts
-  from_is : from ≡ NoTable
-  to_is : to ≡ HasTable texts map.empty
+pub record MakesTable (from to : State) : Type 0 where
+  pub texts : Texts
+  pub from_is : from ≡ NoTable
+  pub to_is : to ≡ HasTable texts map.empty
 
 -- a segment is made of the rows of a file
-record MakesSegment (command : Option Command) (files : Files) (from to : State) : Type 0 where
-  name : List ℕ
-  csv : List ℕ
-  texts : Texts
-  segments : Segments
-  table : Table
-  rows : List (List Value)
-  command_is : command ≡ Some (Build name csv)
-  from_is : from ≡ HasTable texts segments
-  table_is : table_of texts ≡ Some table
-  rows_are : new_rows table segments name csv files ≡ Ok rows
-  to_is : to ≡ HasTable texts (map.insert segments name (segment_of table rows))
+pub record MakesSegment (command : Option Command) (files : Files) (from to : State) : Type 0 where
+  pub name : List ℕ
+  pub csv : List ℕ
+  pub texts : Texts
+  pub segments : Segments
+  pub table : Table
+  pub rows : List (List Value)
+  pub command_is : command ≡ Some (Build name csv)
+  pub from_is : from ≡ HasTable texts segments
+  pub table_is : table_of texts ≡ Some table
+  pub rows_are : new_rows table segments name csv files ≡ Ok rows
+  pub to_is : to ≡ HasTable texts (map.insert segments name (segment_of table rows))
 
 -- a segment is dropped
-record LosesSegment (command : Option Command) (from to : State) : Type 0 where
-  name : List ℕ
-  texts : Texts
-  segments : Segments
-  command_is : command ≡ Some (Drop name)
-  was_there : is_some (map.get segments name) ≡ true
-  from_is : from ≡ HasTable texts segments
-  to_is : to ≡ HasTable texts (map.remove segments name)
+pub record LosesSegment (command : Option Command) (from to : State) : Type 0 where
+  pub name : List ℕ
+  pub texts : Texts
+  pub segments : Segments
+  pub command_is : command ≡ Some (Drop name)
+  pub was_there : is_some (map.get segments name) ≡ true
+  pub from_is : from ≡ HasTable texts segments
+  pub to_is : to ≡ HasTable texts (map.remove segments name)
 
-abbrev Changes : Option Command → Files → State → State → Type 0
+abbrev pub Changes : Option Command → Files → State → State → Type 0
 Changes command files from to = (to ≡ from) ⊎ MakesTable from to ⊎ MakesSegment command files from to ⊎ LosesSegment command from to
 
 created_changes : (command : Option Command) (files : Files) (from : State) (made : Made) → Changes command files from (created from made)
@@ -130,44 +129,45 @@ changes NoTable (Some (Drop name)) files = inl refl
 changes (HasTable texts segments) (Some (Drop name)) files = dropped_changes name files texts segments (is_some (map.get segments name)) refl
 changes from (Some Listing) files = inl refl
 changes from (Some (Ask about sql)) files = inl refl
+changes from (Some (Open file)) files = inl refl
 
 -- either state, by the status
-either : (after : After) (state : State) (ended : Status) (old new : World) (next : State) → LeavesOf after state ended old new next → (next ≡ state) ⊎ (next ≡ after.state)
-either after state status.ReadFault old new next l = inl l.2
-either after state status.WriteFault old new next (inl l) = inl l.2
-either after state status.WriteFault old new next (inr l) = inr l.1
-either after state status.NoMemory old new next l = inl l.1
-either after state status.Done old new next l = inr l.1
-either after state status.BadWords old new next l = inr l.1
-either after state status.NoInput old new next l = inr l.1
-either after state status.BadSchema old new next l = inr l.1
-either after state status.BadSettings old new next l = inr l.1
-either after state status.TableExists old new next l = inr l.1
-either after state status.NoTable old new next l = inr l.1
-either after state status.BadCsv old new next l = inr l.1
-either after state status.TooLarge old new next l = inr l.1
-either after state status.NameTaken old new next l = inr l.1
-either after state status.NoSegment old new next l = inr l.1
-either after state status.BadQuery old new next l = inr l.1
-either after state status.NotASegment old new next l = inr l.1
-either after state status.TooManyGroups old new next l = inr l.1
+either : (after : After) (old : Stage State) (ended : Status) (new : Stage State) → LeavesOf after old ended new → (new.kept ≡ old.kept) ⊎ (new.kept ≡ after.state)
+either after old status.ReadFault new l = inl l.1.kept
+either after old status.WriteFault new (inl l) = inl l.1.kept
+either after old status.WriteFault new (inr l) = inr l.1
+either after old status.NoMemory new l = inl l.kept
+either after old status.Done new l = inr l.1
+either after old status.BadWords new l = inr l.1
+either after old status.NoInput new l = inr l.1
+either after old status.BadSchema new l = inr l.1
+either after old status.BadSettings new l = inr l.1
+either after old status.TableExists new l = inr l.1
+either after old status.NoTable new l = inr l.1
+either after old status.BadCsv new l = inr l.1
+either after old status.TooLarge new l = inr l.1
+either after old status.NameTaken new l = inr l.1
+either after old status.NoSegment new l = inr l.1
+either after old status.BadQuery new l = inr l.1
+either after old status.NotASegment new l = inr l.1
+either after old status.TooManyGroups new l = inr l.1
 
-moves : (files : Files) (from : State) (call : Call) (to : State) → Leads files from call to → Changes (command_of call.words) files from to
-moves files from call to leads = elim (either (step_of from (command_of call.words) files) from call.ended call.old call.new to leads.leaves) [
+pub moves : (files : Files) (command : Option Command) (old : Stage State) (ended : Status) (new : Stage State) → Moves files command old ended new → Changes command files old.kept new.kept
+moves files command old ended new moved = elim (either (step_of old.kept command files) old ended new moved.leaves) [
   | inl same ↦ inl same
-  | inr is ↦ subst (Changes (command_of call.words) files from) (sym is) (changes from (command_of call.words) files)
+  | inr is ↦ subst (Changes command files old.kept) (sym is) (changes old.kept command files)
 ]
 
 -- ---- the rows
 
-no_table : (texts : Texts) (segments : Segments) → NoTable ≢ HasTable texts segments
+pub no_table : (texts : Texts) (segments : Segments) → NoTable ≢ HasTable texts segments
 no_table texts segments e = absurd cc
 
-abbrev texts_in : Texts → State → Texts
+abbrev pub texts_in : Texts → State → Texts
 texts_in other NoTable = other
 texts_in other (HasTable texts segments) = texts
 
-abbrev segments_in : Segments → State → Segments
+abbrev pub segments_in : Segments → State → Segments
 segments_in other NoTable = other
 segments_in other (HasTable texts segments) = segments
 
@@ -192,7 +192,7 @@ abbrev segment_or : Segment → Option Segment → Segment
 segment_or other None = other
 segment_or other (Some segment) = segment
 
-none_some : (segment : Segment) → None ≢ Some segment
+pub none_some : (segment : Segment) → None ≢ Some segment
 none_some segment e = absurd cc
 
 build_drop : {A : Type 0} (name csv gone : List ℕ) → Some (Build name csv) ≡ Some (Drop gone) → A
@@ -202,21 +202,21 @@ none_there : (o : Option Segment) → is_some o ≡ true → o ≢ None
 none_there None there e = absurd cc
 none_there (Some segment) there e = absurd cc
 
-free_by : (o : Option Segment) (line : Note) (rest : Result (List (List Value)) Note) (rows : List (List Value)) → (if is_some o then Err line else rest) ≡ Ok rows → o ≡ None
+pub free_by : (o : Option Segment) (line : Note) (rest : Result (List (List Value)) Note) (rows : List (List Value)) → (if is_some o then Err line else rest) ≡ Ok rows → o ≡ None
 free_by None line rest rows e = refl
 free_by (Some segment) line rest rows e = absurd cc
 
 got_put : (m : Segments) (name : List ℕ) (x : Segment) → map.get (map.insert m name x) name ≡ Some x
 got_put m name x = map.get-insert nat_list_cmp_total m name x name ∙ ap (λ b. cond b (Some x) (map.get m name)) ((eq_by_cmp_equiv nat_list_cmp_total).refl name)
 
-got_other : (m : Segments) (name : List ℕ) (x : Segment) (q : List ℕ) → q ≢ name → map.get (map.insert m name x) q ≡ map.get m q
+pub got_other : (m : Segments) (name : List ℕ) (x : Segment) (q : List ℕ) → q ≢ name → map.get (map.insert m name x) q ≡ map.get m q
 got_other m name x q other = map.get-insert nat_list_cmp_total m name x q ∙ ap (λ b. cond b (Some x) (map.get m q)) (other_name q name other)
 
 none_before : (moved : List Move) (name : List ℕ) (rows : List (List Value)) → Reaches moved NoTable → ¬ IsIngested moved name rows
 none_before [] name rows reach ing = ing
-none_before (move ∷ earlier) name rows (to_is, leads, reach) ing = elim (moves move.files move.from move.call move.to leads) [
+none_before (move ∷ earlier) name rows (to_is, leads, reach) ing = elim (moves move.files move.command move.old move.ended move.new leads) [
   | inl same ↦
-      let none : move.from ≡ NoTable = sym same ∙ to_is in
+      let none : move.old.kept ≡ NoTable = sym same ∙ to_is in
       elim ing [
         | inl i ↦ no_table i.texts i.segments (sym none ∙ i.from_is)
         | inr (unless, before) ↦ none_before earlier name rows (subst (Reaches earlier) none reach) before
@@ -228,8 +228,8 @@ none_before (move ∷ earlier) name rows (to_is, leads, reach) ing = elim (moves
 
 -- a call that makes a segment
 module _ (move : Move) (earlier : List Move) (texts : Texts) (segments : Segments) (table : Table) (name : List ℕ)
-    (to_is : move.to ≡ HasTable texts segments) (accepted : IsAccepted texts table)
-    (built : MakesSegment (command_of move.call.words) move.files move.from move.to) where
+    (to_is : move.new.kept ≡ HasTable texts segments) (accepted : IsAccepted texts table)
+    (built : MakesSegment move.command move.files move.old.kept move.new.kept) where
   made_one : HasTable texts segments ≡ HasTable built.texts (map.insert built.segments built.name (segment_of built.table built.rows))
   made_one = sym to_is ∙ built.to_is
 
@@ -248,10 +248,10 @@ module _ (move : Move) (earlier : List Move) (texts : Texts) (segments : Segment
   is_there : map.get segments built.name ≡ Some (segment_of table built.rows)
   is_there = ap (λ m. map.get m built.name) now ∙ got_put built.segments built.name (segment_of table built.rows)
 
-  from_so : move.from ≡ HasTable texts built.segments
+  from_so : move.old.kept ≡ HasTable texts built.segments
   from_so = built.from_is ∙ ap (λ t. HasTable t built.segments) one_texts
 
-  took : move.to ≢ move.from
+  took : move.new.kept ≢ move.old.kept
   took e =
       let both : HasTable texts segments ≡ HasTable texts built.segments = sym to_is ∙ e ∙ from_so in
       let same : segments ≡ built.segments = ap (segments_in segments) both in
@@ -260,7 +260,7 @@ module _ (move : Move) (earlier : List Move) (texts : Texts) (segments : Segment
   kept : name ≢ built.name → map.get segments name ≡ map.get built.segments name
   kept other = ap (λ m. map.get m name) now ∙ got_other built.segments built.name (segment_of table built.rows) name other
 
-  on_it : IsOn built.name (command_of move.call.words)
+  on_it : IsOn built.name move.command
   on_it = inl (built.csv, built.command_is)
 
   own_rows : (rows : List (List Value)) → Ingests move name rows → (name ≡ built.name) × (rows ≡ built.rows)
@@ -298,7 +298,7 @@ module _ (move : Move) (earlier : List Move) (texts : Texts) (segments : Segment
           let own = own_rows rows i in
           ap (map.get segments) own.0 ∙ is_there ∙ ap (λ r. Some (segment_of table r)) (sym own.1)
       | inr (unless, more) ↦ elim (is_name name built.name) [
-        | inl same ↦ absurd (took (unless (subst (λ n. IsOn n (command_of move.call.words)) (sym same) on_it)))
+        | inl same ↦ absurd (took (unless (subst (λ n. IsOn n move.command) (sym same) on_it)))
         | inr other ↦ kept other ∙ before.there rows more
       ]
     ];
@@ -308,7 +308,7 @@ module _ (move : Move) (earlier : List Move) (texts : Texts) (segments : Segment
           (built.rows, inl (subst (λ n. Ingests move n built.rows) (sym same) ingests), its)
       | inr other ↦
           let (rows, more, is) = before.came segment (sym (kept other) ∙ got) in
-          let apart : IsOn name (command_of move.call.words) → move.to ≡ move.from = λ on. elim on [
+          let apart : IsOn name move.command → move.new.kept ≡ move.old.kept = λ on. elim on [
             | inl (csv, is_on) ↦ absurd (other (ap (the_name name) (sym is_on ∙ built.command_is)))
             | inr is_on ↦ build_drop built.name built.csv name (sym built.command_is ∙ is_on)
           ] in
@@ -318,20 +318,20 @@ module _ (move : Move) (earlier : List Move) (texts : Texts) (segments : Segment
 
 -- a call that drops a segment
 module _ (move : Move) (earlier : List Move) (texts : Texts) (segments : Segments) (table : Table) (name : List ℕ)
-    (to_is : move.to ≡ HasTable texts segments) (gone : LosesSegment (command_of move.call.words) move.from move.to) where
+    (to_is : move.new.kept ≡ HasTable texts segments) (gone : LosesSegment move.command move.old.kept move.new.kept) where
   left_one : HasTable texts segments ≡ HasTable gone.texts (map.remove gone.segments gone.name)
   left_one = sym to_is ∙ gone.to_is
 
   left : segments ≡ map.remove gone.segments gone.name
   left = ap (segments_in segments) left_one
 
-  came_from : move.from ≡ HasTable texts gone.segments
+  came_from : move.old.kept ≡ HasTable texts gone.segments
   came_from = gone.from_is ∙ ap (λ t. HasTable t gone.segments) (sym (ap (texts_in texts) left_one))
 
   none_left : map.get segments gone.name ≡ None
   none_left = ap (λ m. map.get m gone.name) left ∙ got_none gone.segments gone.name
 
-  lost : move.to ≢ move.from
+  lost : move.new.kept ≢ move.old.kept
   lost e =
       let both : HasTable texts segments ≡ HasTable texts gone.segments = sym to_is ∙ e ∙ came_from in
       let same : segments ≡ gone.segments = ap (segments_in segments) both in
@@ -353,7 +353,7 @@ module _ (move : Move) (earlier : List Move) (texts : Texts) (segments : Segment
       | inl same ↦ absurd (none_some segment (sym (ap (map.get segments) same ∙ none_left) ∙ got))
       | inr other ↦
           let (rows, more, is) = before.came segment (sym (others other) ∙ got) in
-          let apart : IsOn name (command_of move.call.words) → move.to ≡ move.from = λ on. elim on [
+          let apart : IsOn name move.command → move.new.kept ≡ move.old.kept = λ on. elim on [
             | inl (csv, is_on) ↦ build_drop name csv gone.name (sym is_on ∙ gone.command_is)
             | inr is_on ↦ absurd (other (ap (the_name name) (sym is_on ∙ gone.command_is)))
           ] in
@@ -363,7 +363,7 @@ module _ (move : Move) (earlier : List Move) (texts : Texts) (segments : Segment
 
 pub ingested : RowsAreIngested
 ingested [] texts segments table reach accepted name = absurd (no_table texts segments (sym reach))
-ingested (move ∷ earlier) texts segments table (to_is, leads, reach) accepted name = elim (moves move.files move.from move.call move.to leads) [
+ingested (move ∷ earlier) texts segments table (to_is, leads, reach) accepted name = elim (moves move.files move.command move.old move.ended move.new leads) [
   | inl same ↦
       let before = ingested earlier texts segments table (subst (Reaches earlier) (sym same ∙ to_is) reach) accepted name in
       record {

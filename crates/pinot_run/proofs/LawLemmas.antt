@@ -25,7 +25,8 @@ pub told_one : (o : Option Files) (P : Files → Type 0) → IsSomeAnd o P → (
 told_one None P h = absurd h
 told_one (Some x) P h = (x, refl, h)
 
-same_held : (files : List (List ℕ × ℕ)) (old new : Seen) → Reads files old new → new.held ≡ old.held
+-- the input files stay what is told
+pub same_held : (files : List (List ℕ × ℕ)) (old new : Seen) → Reads files old new → new.held ≡ old.held
 same_held [] old new same = ap (λ s. s.held) same
 same_held (file ∷ others) old new (mid, front, rest) = same_held others mid new rest ∙ front.held
 

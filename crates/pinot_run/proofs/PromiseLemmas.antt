@@ -30,7 +30,7 @@ where_all None stored Q f = tt
 where_all (Some files) None Q f = tt
 where_all (Some files) (Some kept) Q f = λ state stands. f state files
 
-nothing_more : (told : Option (List ℕ)) → told ≡ appended [] told
+pub nothing_more : (told : Option (List ℕ)) → told ≡ appended [] told
 nothing_more None = refl
 nothing_more (Some old) = ap Some (sym (append-nil old))
 

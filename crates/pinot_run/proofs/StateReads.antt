@@ -39,7 +39,7 @@ use Rattle.table_store.proofs.AcceptedLemmas.{accepted_valid}
 use Rattle.table_store.proofs.KeyLemmas.{keys_stand}
 use Rattle.table_store.proofs.NameLemmas.{is_name, tied_name}
 use Rattle.table_store.proofs.StandsLemmas.{table_there}
-use Rattle.command_words.specs.Command.{Ask, Build, Command, Create, Drop, Listing, Scan}
+use Rattle.command_words.specs.Command.{Ask, Build, Command, Create, Drop, Listing, Open, Scan}
 use Rattle.command_model.specs.Consulted.{Consulted, IsFileAmong, ReadsAbout, ReadsAsked, ReadsEach, ReadsHeads, ReadsStored}
 use Rattle.pinot_run.specs.Laws.{IsLiveFile, ReadsFor, ReadsSegment, ReadsState, SegmentsRead, is_done}
 use Rattle.command_words.specs.Notes.{status_of}
@@ -241,6 +241,8 @@ module _ (stored : Files) (texts : state.Texts) (segments : Segments) (stands : 
   read_so (Some (Drop name)) old new ended p told = table_state old.devices.depot.log new.devices.depot.log (Some (Drop name)) (is_done ended) (λ name rows entries h. h) p.touched.depot.log
   read_so (Some Listing) old new ended p told =
       none_read old.devices.depot.log new.devices.depot.log (Some Listing) (is_done ended) (λ name rows entries h. h) (at_table ReadsHeads old.devices.depot.held old.devices.depot.log new.devices.depot.log told p.reads)
+  read_so (Some (Open file)) old new ended p told =
+      table_state old.devices.depot.log new.devices.depot.log (Some (Open file)) (is_done ended) (λ name rows entries h. h) (unread old.devices.depot.log new.devices.depot.log (ap (λ s. s.log) p.touched.depot))
   read_so (Some (Ask about sql)) old new ended p told = about_state old.devices.depot.log new.devices.depot.log about sql (is_done ended) (asked_state about sql old new ended p told)
 
 pub segments_read : SegmentsRead

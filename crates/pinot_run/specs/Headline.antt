@@ -11,17 +11,18 @@ use Rattle.sql_reply.specs.SqlReply.{sql_reply}
 use Rattle.table_store.specs.Accepted.{IsAccepted}
 use Rattle.table_store.specs.Stands.{Stands, segment_of}
 use Rattle.table_store.specs.State.{HasTable, NoTable, Segment, Segments, State, Texts}
-use Rattle.command_words.specs.Command.{Ask, Build, Command, Drop, command_of}
+use Rattle.command_words.specs.Command.{Build, Command, Drop, call_of}
 use Rattle.command_words.specs.declared.about.About.TheVariants.{Rows, RowsAndPlans}
 use Rattle.command_words.specs.declared.status.Status.{Status}
 use Rattle.command_words.specs.declared.status.Status.TheVariants as status
 use Rattle.command_model.specs.Build.{new_rows}
 use Rattle.command_model.specs.Queried.{all_rows}
 use Rattle.command_model.specs.Step.{After, Replies, sql_answered, query_answer, step_of, text_of}
-use Rattle.command_model.specs.World.{World}
+use Rattle.command_model.specs.World.{Devices, Stage, beside}
 use Rattle.pinot_run.specs.Calls.{AreCalls, Call}
 use Rattle.pinot_run.specs.Laws.{ReadsState, is_done}
 use Rattle.pinot_run.specs.Promise.{Counted, IsGiven, IsUndone, Noted}
+use Rattle.pinot_run.specs.Script.{Does}
 
 -- The headline:
 --
@@ -32,63 +33,63 @@ use Rattle.pinot_run.specs.Promise.{Counted, IsGiven, IsUndone, Noted}
 --     the stated product of star documents.
 --
 -- from an empty folder: `FromEmpty`
--- after any commands: `Proceeds`, over any list of calls
+-- after any commands: `Proceeds`, over any list of calls, each one command or a script of them
 -- each query prints: `LeavesOf`, where the answer of the step is given whole
 -- unless memory runs out or a device fails: `LeavesOf`, its cases of these three statuses
 -- exactly what filtering, grouping and folding would print: `Answers`, over all rows of the state
 -- the rows ingested and not dropped: `RowsAreIngested`
 -- each segment is answered so, and then reads: `ReadsOf`, by the plan of its rows
 
--- ---- one call
+-- ---- one command
 
 -- a read of an input file or of the store failed
-abbrev pub ReadsFailed : World → World → Type 0
+abbrev pub ReadsFailed : {K : Type 0} → Stage K → Stage K → Type 0
 ReadsFailed old new = Rose old.devices.inputs.read_faults new.devices.inputs.read_faults
     ⊎ Rose old.devices.depot.read_faults new.devices.depot.read_faults
 
 -- a stream failed, and the replies grew by a first part of the step's
-pub record IsCutShort (after : After) (old new : World) : Type 0 where
+pub record IsCutShort {K : Type 0} (after : After) (old new : Stage K) : Type 0 where
   pub failed : Rose old.out.faults new.out.faults ⊎ Rose old.notes.faults new.notes.faults
   pub prefix : AppendsPrefix (text_of after.answer) old.out.written new.out.written
 
--- what a call whose step this is leaves of a state, and gives, by its status: where a device failed
--- or memory ran out the state before and nothing, or where a stream failed the step's state and a
--- first part of its reply; else all of the step
-abbrev pub LeavesOf : After → State → Status → World → World → State → Type 0
-LeavesOf after state status.ReadFault old new next = ReadsFailed old new × IsUndone old new
-    × (next ≡ state)
-LeavesOf after state status.WriteFault old new next =
-    (Rose old.devices.depot.write_faults new.devices.depot.write_faults × IsUndone old new
-    × (next ≡ state)) ⊎ (IsCutShort after old new × (next ≡ after.state))
-LeavesOf after state status.NoMemory old new next = IsUndone old new × (next ≡ state)
-LeavesOf after state ended old new next = IsGiven after.answer ended old new
-    × (next ≡ after.state)
+-- what a command whose step this is leaves of a state, and gives, by its status: where a device
+-- failed or memory ran out the state before and nothing, or where a stream failed the step's state
+-- and a first part of its reply; else all of the step
+abbrev pub LeavesOf : After → Stage State → Status → Stage State → Type 0
+LeavesOf after old status.ReadFault new = ReadsFailed old new × IsUndone old new
+LeavesOf after old status.WriteFault new =
+    (Rose old.devices.depot.write_faults new.devices.depot.write_faults × IsUndone old new)
+    ⊎ (IsCutShort after old new × (new.kept ≡ after.state))
+LeavesOf after old status.NoMemory new = IsUndone old new
+LeavesOf after old ended new = IsGiven after.answer ended old new × (new.kept ≡ after.state)
 
--- what a call read of a state: where there is a table, the files of the table and of its segments
--- alone, and of each segment what the plan of its rows says, at most so where it was not done
-abbrev pub ReadsOf : State → Call → Type 0
-ReadsOf NoTable call = Unit {0}
-ReadsOf (HasTable texts segments) call = (table : Table) → IsAccepted texts table
-    → ReadsState (command_of call.words) (is_done call.ended) table segments
-    call.old.devices.depot.log call.new.devices.depot.log
+-- what a command read of a state: where there is a table, the files of the table and of its
+-- segments alone, and of each segment what the plan of its rows says, at most so where it was not
+-- done
+abbrev pub ReadsOf : State → Option Command → Status → Devices → Devices → Type 0
+ReadsOf NoTable command ended old new = Unit {0}
+ReadsOf (HasTable texts segments) command ended old new = (table : Table)
+    → IsAccepted texts table
+    → ReadsState command (is_done ended) table segments old.depot.log new.depot.log
 
--- over these input files a call led from one state to the next
-pub record Leads (files : Files) (state : State) (call : Call) (next : State) : Type 0 where
-  pub leaves : LeavesOf (step_of state (command_of call.words) files) state call.ended call.old
-      call.new next
-  pub stands : IsSomeAnd call.new.devices.depot.held (λ kept. Stands kept next)
-  pub noted : Noted call.ended call.old.notes call.new.notes
-  pub counted : Counted call.ended call.old call.new
-  pub reads : ReadsOf state call
+-- over these input files a command led from the state that is kept before it to the one after it
+pub record Moves (files : Files) (command : Option Command) (old : Stage State) (ended : Status)
+    (new : Stage State) : Type 0 where
+  pub leaves : LeavesOf (step_of old.kept command files) old ended new
+  pub stands : IsSomeAnd new.devices.depot.held (λ stored. Stands stored new.kept)
+  pub noted : Noted ended old.notes new.notes
+  pub counted : Counted ended old new
+  pub reads : ReadsOf old.kept command ended old.devices new.devices
 
--- ---- any calls
+-- ---- calls
 
--- each call leads on from the state to which the one before led; of a call whose input files are
--- not told nothing is said, nor of those after it
+-- each call leads on from the state to which the one before led, a script by its lines; of a call
+-- whose input files are not told nothing is said, nor of those after it
 abbrev pub Proceeds : State → List Call → Type 0
 Proceeds state [] = Unit {0}
 Proceeds state (call ∷ calls) = IfSome call.old.devices.inputs.held (λ files. (next : State)
-    × Leads files state call next × Proceeds next calls)
+    × Does (Moves files) (call_of call.words) (beside state call.old) call.ended
+    (beside next call.new) × Proceeds next calls)
 
 -- from a store that stands for a state on, any calls proceed
 abbrev pub Headline : Type 0
@@ -120,27 +121,30 @@ AnswersRows = (texts : Texts) (segments : Segments) (table : Table) (sql : List 
 
 -- ---- the rows ingested
 
--- a call on the way: over these input files it led from one state to another
+-- a command on the way, of a call or of a line of a script: over these input files it led from one
+-- state to another
 pub record Move : Type 0 where
-  pub call : Call
+  pub command : Option Command
   pub files : Files
-  pub from : State
-  pub to : State
+  pub ended : Status
+  pub old : Stage State
+  pub new : Stage State
 
 -- moves one after another, the latest first, lead from there being no table to this state
 abbrev pub Reaches : List Move → State → Type 0
 Reaches [] state = state ≡ NoTable
-Reaches (move ∷ earlier) state = (move.to ≡ state)
-    × Leads move.files move.from move.call move.to × Reaches earlier move.from
+Reaches (move ∷ earlier) state = (move.new.kept ≡ state)
+    × Moves move.files move.command move.old move.ended move.new
+    × Reaches earlier move.old.kept
 
 -- a `build` of this name took effect, and these are the rows of its file
 pub record Ingests (move : Move) (name : List ℕ) (rows : List (List Value)) : Type 0 where
   pub csv : List ℕ
-  pub built : command_of move.call.words ≡ Some (Build name csv)
-  pub took_effect : move.to ≢ move.from
+  pub built : move.command ≡ Some (Build name csv)
+  pub took_effect : move.new.kept ≢ move.old.kept
   pub texts : Texts
   pub segments : Segments
-  pub from_is : move.from ≡ HasTable texts segments
+  pub from_is : move.old.kept ≡ HasTable texts segments
   pub table : Table
   pub accepted : IsAccepted texts table
   pub rows_are : new_rows table segments name csv move.files ≡ Ok rows
@@ -154,7 +158,7 @@ IsOn name command = ((csv : List ℕ) × (command ≡ Some (Build name csv)))
 abbrev pub IsIngested : List Move → List ℕ → List (List Value) → Type 0
 IsIngested [] name rows = ⊥
 IsIngested (move ∷ earlier) name rows = Ingests move name rows
-    ⊎ ((IsOn name (command_of move.call.words) → move.to ≡ move.from)
+    ⊎ ((IsOn name move.command → move.new.kept ≡ move.old.kept)
     × IsIngested earlier name rows)
 
 -- the segment of a name is there just where rows were ingested under it, and has these rows, in the

@@ -80,7 +80,7 @@ pub record IsQuiet (old new : World) : Type 0 where
 
 -- which counts may have risen: those of reads with a read fault, those of writes with a write
 -- fault, and those of the notes with any fault
-pub record Counted (ended : Status) (old new : World) : Type 0 where
+pub record Counted {K : Type 0} (ended : Status) (old new : Stage K) : Type 0 where
   pub inputs : ended ≢ status.ReadFault → new.devices.inputs.read_faults
       ≡ old.devices.inputs.read_faults
   pub depot_reads : ended ≢ status.ReadFault → new.devices.depot.read_faults

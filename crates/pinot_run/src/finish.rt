@@ -21,8 +21,8 @@ pub(crate) fn status_of_fault(fault: Fault) -> Status
     }
 }
 
-// Writes what is not empty, and says whether all of it was written.
-fn put_some<S: Sink>(bytes: &[u8], sink: &mut S) -> bool
+/// Writes what is not empty, and says whether all of it was written.
+pub(crate) fn put_some<S: Sink>(bytes: &[u8], sink: &mut S) -> bool
     ensures all { result ≡ true → S.written sink.new ≡ appended bytes.now (S.written sink.old) }
     ensures prefix { AppendsPrefix bytes.now (S.written sink.old) (S.written sink.new) }
     ensures later { S.faults sink.old ≤ S.faults sink.new }

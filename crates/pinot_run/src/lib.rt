@@ -1,12 +1,14 @@
-//! One command of the store, from its words to its reply.
+//! One command of the store, or a script of them, from the words to the replies.
 #![tactic(auto)]
 
 mod finish;
 mod laws;
 mod run;
+mod script;
 
 pub use command_words::{Status, may_write};
 pub use laws::{
-    answer_law, from_empty_law, headline_law, ingested_law, promises_compose_law, segments_read_law,
+    answer_law, done_prints_law, from_empty_law, headline_law, ingested_law, promises_compose_law,
+    script_reads_law, segments_read_law,
 };
 pub use run::run_command;

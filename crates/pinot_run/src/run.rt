@@ -1,17 +1,19 @@
 //! The top call.
 ghost use Rattle.std.specs.Prelude.{◌≡◌, ◌⊎◌, ◌≤◌, false, map, string_bytes};
-ghost use Rattle.command_words.specs.Command.{command_of};
+ghost use Rattle.command_words.specs.Command.{call_of, command_of};
 ghost use Rattle.command_model.specs.Consulted.{AtMostRead};
 ghost use Rattle.command_words.specs.Notes.{is_fault};
 ghost use Rattle.pinot_run.specs.Promise.{Counted, IsQuiet, IsStep, Leaves, Noted, Promise};
+ghost use Rattle.pinot_run.specs.Script.{Does, OfOne, OfScript, RunsScript};
 ghost use Rattle.command_model.specs.Ran.{Ran, WhereStands};
-ghost use Rattle.command_model.specs.Step.{status_after, step};
+ghost use Rattle.command_model.specs.Step.{status_after, step_of};
 ghost use Rattle.command_model.specs.Touched.{Touched};
 ghost use Rattle.outside.specs.Seen.{heard};
 ghost use Rattle.command_model.specs.World.{devices, world};
 
 use crate::finish::{give_note, give_text, note_fault, status_of_fault};
-use command_words::{Command, Note, Status, Stop, read_command};
+use crate::script::run_script;
+use command_words::{Command, Note, Status, Stop, read_command, script_file};
 use commands::build::build;
 use commands::create::create;
 use commands::drop::drop_named;
@@ -21,12 +23,12 @@ use commands::scan::scan;
 use outside::{Bytes, Depot, Shelf, Sink};
 use std::alloc::Global;
 
-/// Runs one command of the store: its words, the folder that its input files are read from, the
-/// folder that the store is kept in, and the streams for its reply and its note line.
+/// Runs one command of the store, or a script of them: the words, the folder that input files are
+/// read from, the folder that the store is kept in, and the streams for replies and note lines.
 ///
-/// The reply is made whole before the store is written and before anything is put on a stream, and
-/// no memory is taken after the store was written. The note line, one for every status but `Done`,
-/// is written last.
+/// The reply of a command is made whole before the store is written and before anything is put on a
+/// stream, and no memory is taken after the store was written. The note line, one for every status
+/// but `Done`, is written last. After the reply of each line of a script comes its mark.
 pub fn run_command<I: Shelf, D: Depot, O: Sink, N: Sink>(
     alloc: Global,
     words: &[String],
@@ -36,46 +38,72 @@ pub fn run_command<I: Shelf, D: Depot, O: Sink, N: Sink>(
     notes: &mut N,
 ) -> Status
     // Where no device failed and there was memory, the command did what its step says.
-    ensures step { is_fault result ≡ false
+    ensures step { OfOne (call_of (map string_bytes words.now)) (λ command. is_fault result ≡ false
         → WhereStands (I.held inputs.old) (D.held depot.old) (λ state files.
-        IsStep (step state (map string_bytes words.now) files) result
+        IsStep (step_of state command files) result
         (world I.Shelf D.Shelf O.Sink N.Sink inputs.old depot.old out.old notes.old)
-        (world I.Shelf D.Shelf O.Sink N.Sink inputs.new depot.new out.new notes.new)) }
+        (world I.Shelf D.Shelf O.Sink N.Sink inputs.new depot.new out.new notes.new))) }
 
     // What is left after each status, over any store, with the cause of each refusal and of each
     // fault.
-    ensures leaves { Leaves (command_of (map string_bytes words.now))
+    ensures leaves { OfOne (call_of (map string_bytes words.now)) (λ command. Leaves command
         (world I.Shelf D.Shelf O.Sink N.Sink inputs.old depot.old out.old notes.old) result
-        (world I.Shelf D.Shelf O.Sink N.Sink inputs.new depot.new out.new notes.new) }
+        (world I.Shelf D.Shelf O.Sink N.Sink inputs.new depot.new out.new notes.new)) }
 
     // It did so wherever no device failed, unless memory ran out.
-    ensures complete { IsQuiet
+    ensures complete { OfOne (call_of (map string_bytes words.now)) (λ command. IsQuiet
         (world I.Shelf D.Shelf O.Sink N.Sink inputs.old depot.old out.old notes.old)
         (world I.Shelf D.Shelf O.Sink N.Sink inputs.new depot.new out.new notes.new)
         → WhereStands (I.held inputs.old) (D.held depot.old) (λ state files.
-        (result ≡ status_after (step state (map string_bytes words.now) files).answer)
-        ⊎ (result ≡ Status.NoMemory)) }
+        (result ≡ status_after (step_of state command files).answer)
+        ⊎ (result ≡ Status.NoMemory))) }
 
     // The notes grow by the line of the status, or by a part of one line where they fail.
-    ensures notes { Noted result (heard N.Sink notes.old) (heard N.Sink notes.new) }
+    ensures notes { OfOne (call_of (map string_bytes words.now)) (λ command.
+        Noted result (heard N.Sink notes.old) (heard N.Sink notes.new)) }
     // A count of faults rose only where a call that it counts failed.
-    ensures counted { Counted result
+    ensures counted { OfOne (call_of (map string_bytes words.now)) (λ command. Counted result
         (world I.Shelf D.Shelf O.Sink N.Sink inputs.old depot.old out.old notes.old)
-        (world I.Shelf D.Shelf O.Sink N.Sink inputs.new depot.new out.new notes.new) }
+        (world I.Shelf D.Shelf O.Sink N.Sink inputs.new depot.new out.new notes.new)) }
 
     // What is read and changed on the devices is what the words name.
-    ensures touched { Touched (command_of (map string_bytes words.now))
+    ensures touched { OfOne (call_of (map string_bytes words.now)) (λ command. Touched command
         (devices I.Shelf D.Shelf inputs.old depot.old)
-        (devices I.Shelf D.Shelf inputs.new depot.new) }
+        (devices I.Shelf D.Shelf inputs.new depot.new)) }
 
     // Of each segment no more is read than the plan of its rows says, whatever the status is; for a
     // text that is no query over the table nothing, and for `explain` and `list` no byte past its
     // head.
-    ensures reads { AtMostRead (command_of (map string_bytes words.now))
+    ensures reads { OfOne (call_of (map string_bytes words.now)) (λ command. AtMostRead command
         (devices I.Shelf D.Shelf inputs.old depot.old)
-        (devices I.Shelf D.Shelf inputs.new depot.new) }
+        (devices I.Shelf D.Shelf inputs.new depot.new)) }
+
+    // A script is opened, and each of its lines is a command, up to a fault or to the end.
+    ensures script { OfScript (call_of (map string_bytes words.now)) (λ file.
+        RunsScript Promise file
+        (world I.Shelf D.Shelf O.Sink N.Sink inputs.old depot.old out.old notes.old) result
+        (world I.Shelf D.Shelf O.Sink N.Sink inputs.new depot.new out.new notes.new)) }
 {
-    run(alloc, words, inputs, depot, out, notes)
+    run_call(alloc, words, inputs, depot, out, notes)
+}
+
+// Does what the words ask for.
+fn run_call<I: Shelf, D: Depot, O: Sink, N: Sink>(
+    alloc: Global,
+    words: &[String],
+    inputs: &mut I,
+    depot: &mut D,
+    out: &mut O,
+    notes: &mut N,
+) -> Status
+    ensures { Does Promise (call_of (map string_bytes words.now))
+        (world I.Shelf D.Shelf O.Sink N.Sink inputs.old depot.old out.old notes.old) result
+        (world I.Shelf D.Shelf O.Sink N.Sink inputs.new depot.new out.new notes.new) }
+{
+    match script_file(words) {
+        Some(file) => run_script(alloc, file, inputs, depot, out, notes),
+        None => run(alloc, words, inputs, depot, out, notes),
+    }
 }
 
 // The reply to the words of a command, and what they do to the store, before anything is written on
@@ -101,8 +129,8 @@ fn reply_to<I: Shelf, D: Depot>(
     }
 }
 
-// Runs a command, and gives its reply.
-fn run<I: Shelf, D: Depot, O: Sink, N: Sink>(
+/// Runs a command, and gives its reply.
+pub(crate) fn run<I: Shelf, D: Depot, O: Sink, N: Sink>(
     alloc: Global,
     words: &[String],
     inputs: &mut I,

@@ -1,0 +1,273 @@
+-- What the lines of a script read of a segment, added up.
+use Rattle.std.proofs.Common.{◌≡◌, ◌≢◌, ◌∙◌, ◌≤◌, ◌+◌, ◌*◌, ◌++◌, ◌==◌, inl, inr, ℕ, Bool, true, false, List, [], ◌∷◌, All, Option, Some, None, Result, Ok, Err, IfSome, cond, option_map, slice_get, refl, sym, ap, subst, arith, append_assoc, append-nil}
+use Rattle.std.proofs.lemmas.Bool.Decides.{nat_tests}
+use Rattle.std.proofs.lemmas.List.Elements.{All-head, All-tail}
+use Rattle.std.proofs.lemmas.List.Sums.{sum_by-cons}
+use Rattle.std.specs.FinMap as map
+use Rattle.std.specs.Prelude.{sum_by}
+use Rattle.outside.specs.Files.{Files}
+use Rattle.outside.specs.Reads.{Entry}
+use Rattle.outside.proofs.ReadLemmas.{read_in-append}
+use Rattle.values.specs.declared.value.Value.{Value}
+use Rattle.table_schema.specs.declared.query.BoundQuery.{BoundQuery}
+use Rattle.table_schema.specs.declared.settings.TreeSetting.{TreeSetting}
+use Rattle.table_schema.specs.declared.table.Table.{Table}
+use Rattle.sql_reply.specs.Asked.{asked}
+use Rattle.sql_reply.specs.declared.fault.SqlFault.{SqlFault}
+use Rattle.star_file.specs.Reading.{doc_width}
+use Rattle.segment_plan.specs.Planned.{plan_over}
+use Rattle.segment_plan.specs.declared.plans.SegmentPlan.{SegmentPlan}
+use Rattle.segment_plan.specs.declared.plans.SegmentPlan.TheVariants.{Empty, Pruned, Scan, StarTree}
+use Rattle.segment_head.specs.Stored.{live}
+use Rattle.segment_reads.specs.Docs.{docs_read}
+use Rattle.segment_reads.specs.Reads.{AreBytes, Grown, ReadsBy, ReadsNone, bytes_read, raw_span, star_span}
+use Rattle.segment_reads.proofs.GrownLemmas.{grown_so}
+use Rattle.segment_reads.proofs.LogLemmas.{same_log}
+use Rattle.table_store.specs.Accepted.{IsAccepted}
+use Rattle.table_store.specs.Stands.{segment_of}
+use Rattle.table_store.specs.State.{HasTable, Segment, Segments, State, Texts}
+use Rattle.command_words.specs.Command.{Ask, Build, Command, Create, Drop, Listing, Open, Scan as ScanFile}
+use Rattle.command_words.specs.Notes.{is_fault}
+use Rattle.command_words.specs.declared.about.About.TheVariants.{Plans, Rows, RowsAndPlans}
+use Rattle.command_words.specs.declared.status.Status.{Status}
+use Rattle.command_words.specs.declared.status.Status.TheVariants as status
+use Rattle.command_model.specs.World.{Devices, Stage}
+use Rattle.pinot_run.specs.Headline.{Moves, ReadsOf}
+use Rattle.pinot_run.specs.Laws.{ReadsFor, ReadsSegment, ReadsState, is_done}
+use Rattle.pinot_run.specs.Script.{EndsAt, GoesOn, RunsLines}
+use Rattle.pinot_run.specs.ScriptReads.{Finishes, LinesRead, ReadsAll, ScriptReads, docs_of, is_scan, of_text, plan_docs, scans, takes_none}
+use Rattle.pinot_run.specs.Text.{line_command}
+use Rattle.table_store.proofs.NameLemmas.{is_name}
+use Rattle.pinot_run.proofs.DoneLemmas.{not_done, write_not_done}
+use Rattle.pinot_run.proofs.IngestedLemmas.{Changes, free_by, got_other, moves, no_table, none_some, segments_in, texts_in}
+
+-- ---- numbers of bytes
+
+no_bytes : (done : Bool) (bytes width : ℕ) → bytes ≡ 0 → AreBytes done bytes (0 * width)
+no_bytes true bytes width none = omega (arith, none)
+no_bytes false bytes width none = omega (arith, none)
+
+weaker : (done : Bool) (bytes wanted : ℕ) → AreBytes done bytes wanted → AreBytes false bytes wanted
+weaker true bytes wanted are = omega (arith, are)
+weaker false bytes wanted are = are
+
+added : (done : Bool) (a b wanted more : ℕ) → AreBytes done a wanted → AreBytes done b more → AreBytes done (a + b) (wanted + more)
+added true a b wanted more first second = omega (arith, first, second)
+added false a b wanted more first second = omega (arith, first, second)
+
+-- ---- one line
+
+module _ (table : Table) (name : List ℕ) (rows : List (List Value)) where
+  abbrev Raw : List Entry → ℕ
+  Raw x = bytes_read x (live name) (raw_span table name rows)
+
+  abbrev Star : List Entry → ℕ → ℕ
+  Star x n = bytes_read x (live name) (star_span table name rows n)
+
+  -- what is read by a plan that is a scan or not, and of a number of documents for each tree
+  record OfPlan (done : Bool) (is : Bool) (docs : ℕ → ℕ) (x : List Entry) : Type 0 where
+    raw : is ≡ false → Raw x ≡ 0
+    stars : (n : ℕ) (setting : TreeSetting) → slice_get table.settings.trees n ≡ Some setting → AreBytes done (Star x n) (docs n * doc_width setting.shape)
+
+  none_of : (done : Bool) (x : List Entry) → ReadsNone table (live name) rows x → OfPlan done false (λ n. 0) x
+  none_of done x r = record { raw = λ is. r.raw; stars = λ n setting got. no_bytes done (Star x n) (doc_width setting.shape) (r.stars n) }
+
+  tree_by : (query : BoundQuery) (done : Bool) (t n : ℕ) (setting : TreeSetting) (x : List Entry) (test : Bool) → (t == n) ≡ test → slice_get table.settings.trees n ≡ Some setting → ReadsBy query table (live name) rows done x (StarTree t)
+      → AreBytes done (Star x n) (cond test (docs_read query table rows n) 0 * doc_width setting.shape)
+  tree_by query done t n setting x true is got r =
+      let same : t ≡ n = grind (arith, nat_tests) in
+      let documents = subst (λ k. IfSome (slice_get table.settings.trees k) (λ tree. AreBytes done (Star x k) (docs_read query table rows k * doc_width tree.shape))) same r.documents in
+      subst (λ o. IfSome o (λ tree. AreBytes done (Star x n) (docs_read query table rows n * doc_width tree.shape))) got documents
+  tree_by query done t n setting x false is got r =
+      let other : n ≢ t = λ e. grind (arith, nat_tests) in
+      no_bytes done (Star x n) (doc_width setting.shape) (r.others n other)
+
+  of_plan : (query : BoundQuery) (done : Bool) (x : List Entry) (plan : SegmentPlan) → ReadsBy query table (live name) rows done x plan → OfPlan done (is_scan plan) (λ n. plan_docs table rows n query plan) x
+  of_plan query done x Pruned r = none_of done x r
+  of_plan query done x Empty r = none_of done x r
+  of_plan query done x (StarTree t) r = record { raw = λ is. r.raw; stars = λ n setting got. tree_by query done t n setting x (t == n) refl got r }
+  of_plan query done x (Scan plan) r = record { raw = λ is. absurd cc; stars = λ n setting got. no_bytes done (Star x n) (doc_width setting.shape) (r.stars n) }
+
+  abbrev OfText : Bool → List Entry → Result BoundQuery SqlFault → Type 0
+  OfText done x text = OfPlan done (of_text false (λ query plan. is_scan plan) table rows text) (λ n. of_text 0 (plan_docs table rows n) table rows text) x
+
+  of_query : (done : Bool) (x : List Entry) (text : Result BoundQuery SqlFault) → ReadsFor text done table name rows x → OfText done x text
+  of_query done x (Ok query) r = of_plan query done x (plan_over query table rows) r
+  of_query done x (Err wrong) r = none_of done x r
+
+  of_line : (command : Option Command) (done : Bool) (x : List Entry) → ReadsSegment command done table name rows x → OfPlan done (scans table rows command) (λ n. docs_of table rows n command) x
+  of_line None done x r = none_of done x r
+  of_line (Some (ScanFile file sql)) done x r = none_of done x r
+  of_line (Some (Create schema settings)) done x r = none_of done x r
+  of_line (Some (Build other csv)) done x r = none_of done x r
+  of_line (Some (Drop other)) done x r = none_of done x r
+  of_line (Some Listing) done x r = none_of done x r
+  of_line (Some (Ask Rows sql)) done x r = of_query done x (asked table false sql) r
+  of_line (Some (Ask Plans sql)) done x r = none_of done x r
+  of_line (Some (Ask RowsAndPlans sql)) done x r = of_query done x (asked table false sql) r
+  of_line (Some (Open file)) done x r = none_of done x r
+
+  -- ---- lines
+
+  abbrev Docs : ℕ → ℕ → List ℕ → ℕ
+  Docs n width line = docs_of table rows n (line_command line) * width
+
+  no_lines : (all_done : Bool) → LinesRead table name rows [] all_done []
+  no_lines all_done = record { raw = λ none. refl; stars = λ n setting got. no_bytes all_done 0 0 refl }
+
+  one_more : (all_done : Bool) (line : List ℕ) (lines : List (List ℕ)) (x y : List Entry) → OfPlan all_done (scans table rows (line_command line)) (λ n. docs_of table rows n (line_command line)) x → LinesRead table name rows lines all_done y
+      → LinesRead table name rows (line ∷ lines) all_done (x ++ y)
+  one_more all_done line lines x y first rest = record {
+    raw = λ none.
+        let here : Raw x ≡ 0 = first.raw (All-head (λ l. scans table rows (line_command l) ≡ false) line lines none) in
+        let there : Raw y ≡ 0 = rest.raw (All-tail (λ l. scans table rows (line_command l) ≡ false) line lines none) in
+        let sums : Raw (x ++ y) ≡ Raw x + Raw y = read_in-append x y (live name).file (raw_span table name rows).from (raw_span table name rows).to in
+        omega (arith, here, there, sums);
+    stars = λ n setting got.
+        let width = doc_width setting.shape in
+        let sums : Star (x ++ y) n ≡ Star x n + Star y n = read_in-append x y (live name).file (star_span table name rows n).from (star_span table name rows n).to in
+        let wanted = sum_by-cons (Docs n width) line lines in
+        subst (λ b. AreBytes all_done b (sum_by (Docs n width) (line ∷ lines))) (sym sums)
+        (subst (AreBytes all_done (Star x n + Star y n)) (sym wanted) (added all_done (Star x n) (Star y n) (Docs n width line) (sum_by (Docs n width) lines) (first.stars n setting got) (rest.stars n setting got)));
+  }
+
+  -- lines of which nothing was read, where not all was done
+  unread : (lines : List (List ℕ)) → LinesRead table name rows lines false []
+  unread lines = record {
+    raw = λ none. refl;
+    stars = λ n setting got. let none : Star [] n ≡ 0 = refl in omega (arith, none);
+  }
+
+  -- after a line that is the last that was run
+  last_line : (all_done : Bool) (line : List ℕ) (lines : List (List ℕ)) (x : List Entry) → ¬ (all_done ≡ true) → OfPlan all_done (scans table rows (line_command line)) (λ n. docs_of table rows n (line_command line)) x → LinesRead table name rows (line ∷ lines) all_done x
+  last_line true line lines x not plan = absurd (not refl)
+  last_line false line lines x not plan = subst (LinesRead table name rows (line ∷ lines) false) (append-nil x) (one_more false line lines x [] plan (unread lines))
+
+-- ---- the segment stays
+
+stays : (files : Files) (texts : Texts) (segments : Segments) (name : List ℕ) (segment : Segment) (command : Option Command) (from to : State) → takes_none command ≡ true → from ≡ HasTable texts segments → map.get segments name ≡ Some segment → Changes command files from to
+    → (left : Segments) × (to ≡ HasTable texts left) × (map.get left name ≡ Some segment)
+stays files texts segments name segment command from to keeps is got (inl same) = (segments, same ∙ is, got)
+stays files texts segments name segment command from to keeps is got (inr (inl made)) = absurd (no_table texts segments (sym made.from_is ∙ is))
+stays files texts segments name segment command from to keeps is got (inr (inr (inl built))) =
+    let both : HasTable texts segments ≡ HasTable built.texts built.segments = sym is ∙ built.from_is in
+    let own_texts : built.texts ≡ texts = sym (ap (texts_in texts) both) in
+    let own : built.segments ≡ segments = sym (ap (segments_in segments) both) in
+    let there : map.get built.segments name ≡ Some segment = ap (λ m. map.get m name) own ∙ got in
+    let free : map.get built.segments built.name ≡ None = free_by (map.get built.segments built.name) _ _ built.rows built.rows_are in
+    elim (is_name name built.name) [
+      | inl same ↦ absurd (none_some segment (sym free ∙ ap (map.get built.segments) (sym same) ∙ there))
+      | inr other ↦
+          let left : Segments = map.insert built.segments built.name (segment_of built.table built.rows) in
+          (left, built.to_is ∙ ap (λ t. HasTable t left) own_texts, got_other built.segments built.name (segment_of built.table built.rows) name other ∙ there)
+    ]
+stays files texts segments name segment command from to keeps is got (inr (inr (inr gone))) =
+    let no : takes_none command ≡ false = ap takes_none gone.command_is in
+    let both : true ≡ false = sym keeps ∙ no in
+    absurd cc
+
+-- ---- the lines of a script
+
+-- a log grew by reads of which this holds, where it is told
+record Grew (P : List Entry → Type 0) (old new : Option (List Entry)) : Type 0 where
+  entries : List Entry
+  made : new ≡ option_map (λ l. l ++ entries) old
+  told : IfSome old (λ before. P entries)
+
+grew_grown : (P : List Entry → Type 0) (old new : Option (List Entry)) → Grew P old new → Grown P old new
+grew_grown P None new g = λ before entries is now. absurd cc
+grew_grown P (Some before) new g = grown_so P (Some before) new g.entries g.made g.told
+
+-- what holds of the entries of a log that grew so
+told_of : (P : List Entry → Type 0) (old new : Option (List Entry)) (x : List Entry) → new ≡ option_map (λ l. l ++ x) old → Grown P old new → IfSome old (λ before. P x)
+told_of P None new x made grown = tt
+told_of P (Some before) new x made grown = grown before x refl made
+
+grew_then : (P Q R : List Entry → Type 0) (a b c : Option (List Entry)) (x : List Entry) → b ≡ option_map (λ l. l ++ x) a → IfSome a (λ before. P x) → Grew Q b c → ((y : List Entry) → P x → Q y → R (x ++ y)) → Grew R a c
+grew_then P Q R None b c x made first g both = record { entries = x ++ g.entries; made = g.made ∙ ap (option_map (λ l. l ++ g.entries)) made; told = tt }
+grew_then P Q R (Some before) b c x made first g both =
+    let later : IfSome (Some (before ++ x)) (λ l. Q g.entries) = subst (λ o. IfSome o (λ l. Q g.entries)) made g.told in
+    record {
+      entries = x ++ g.entries;
+      made = g.made ∙ ap (option_map (λ l. l ++ g.entries)) made ∙ ap Some (append_assoc before x g.entries);
+      told = both g.entries first later;
+    }
+
+told_as : (o : Option (List Entry)) (Q R : Type 0) → (Q → R) → IfSome o (λ before. Q) → IfSome o (λ before. R)
+told_as None Q R f h = tt
+told_as (Some before) Q R f h = f h
+
+always : {Q : Type 0} (o : Option (List Entry)) → Q → IfSome o (λ before. Q)
+always None q = tt
+always (Some before) q = q
+
+module _ (files : Files) (texts : Texts) (table : Table) (accepted : IsAccepted texts table) (name : List ℕ) (segment : Segment)
+    (all_done : Bool) (P : Option Command → Stage State → Status → Stage State → Type 0)
+    (to : (command : Option Command) (old : Stage State) (ended : Status) (new : Stage State) → P command old ended new → Moves files command old ended new)
+    (weak : (command : Option Command) (old : Stage State) (ended : Status) (new : Stage State) → P command old ended new → (bytes wanted : ℕ) → AreBytes (is_done ended) bytes wanted → AreBytes all_done bytes wanted) where
+  abbrev Here : Segments → Stage State → Type 0
+  Here segments stage = (stage.kept ≡ HasTable texts segments) × (map.get segments name ≡ Some segment)
+
+  abbrev Line : List ℕ → List Entry → Type 0
+  Line line x = OfPlan table name segment.rows all_done (scans table segment.rows (line_command line)) (λ n. docs_of table segment.rows n (line_command line)) x
+
+  -- a line that did P
+  one_line : (line : List ℕ) (segments : Segments) (old : Stage State) (said : Status) (new : Stage State) → Here segments old → P (line_command line) old said new
+      → (x : List Entry) × (new.devices.depot.log ≡ option_map (λ l. l ++ x) old.devices.depot.log) × IfSome old.devices.depot.log (λ before. Line line x)
+  one_line line segments old said new (is, got) p =
+      let m = to (line_command line) old said new p in
+      let reads : ReadsState (line_command line) (is_done said) table segments old.devices.depot.log new.devices.depot.log =
+      subst (λ s. ReadsOf s (line_command line) said old.devices new.devices) is m.reads table accepted in
+      let (x, made, among) = reads.files in
+      let own = told_of (ReadsSegment (line_command line) (is_done said) table name segment.rows) old.devices.depot.log new.devices.depot.log x made (reads.each name segment got) in
+      let by : ReadsSegment (line_command line) (is_done said) table name segment.rows x → Line line x = λ r.
+      let plan = of_line table name segment.rows (line_command line) (is_done said) x r in
+      record { raw = plan.raw; stars = λ n setting there. weak (line_command line) old said new p _ _ (plan.stars n setting there) } in
+      (x, made, told_as old.devices.depot.log (ReadsSegment (line_command line) (is_done said) table name segment.rows x) (Line line x) by own)
+
+  -- a script that ends at a line is not all done
+  ends_not : (line : List ℕ) (old : Stage State) (ended : Status) (new : Stage State) → EndsAt P line old ended new → ended ≢ status.Done
+  ends_not line old ended new e done = elim e.stops [
+    | inl (fault, same, left) ↦ not_done e.said fault (sym same ∙ done)
+    | inr (fine, same, cut) ↦ write_not_done (sym same ∙ done)
+  ]
+
+  end_log : (line : List ℕ) (old : Stage State) (ended : Status) (new : Stage State) (e : EndsAt P line old ended new) → new.devices.depot.log ≡ e.between.devices.depot.log
+  end_log line old ended new e = elim e.stops [
+    | inl (fault, same, left) ↦ ap (λ (s : Stage State). s.devices.depot.log) left
+    | inr (fine, same, cut) ↦ ap (λ (d : Devices). d.depot.log) cut.devices
+  ]
+
+  lines_read : (lines : List (List ℕ)) (segments : Segments) (old : Stage State) (ended : Status) (new : Stage State) → Here segments old → All (λ line. takes_none (line_command line) ≡ true) lines → (all_done ≡ true → ended ≡ status.Done) → RunsLines P lines old ended new
+      → Grew (LinesRead table name segment.rows lines all_done) old.devices.depot.log new.devices.depot.log
+  lines_read [] segments old ended new here keeps ends (done, same) = record {
+    entries = [];
+    made = ap (λ (s : Stage State). s.devices.depot.log) same ∙ same_log old.devices.depot.log;
+    told = always old.devices.depot.log (no_lines table name segment.rows all_done);
+  }
+  lines_read (line ∷ lines) segments old ended new here keeps ends (inl e) =
+      let (x, made, told) = one_line line segments old e.said e.between here e.does in
+      record {
+        entries = x;
+        made = end_log line old ended new e ∙ made;
+        told = told_as old.devices.depot.log (Line line x) (LinesRead table name segment.rows (line ∷ lines) all_done x) (last_line table name segment.rows all_done line lines x (λ flag. ends_not line old ended new e (ends flag))) told;
+      }
+  lines_read (line ∷ lines) segments old ended new here keeps ends (inr (next, goes, rest)) =
+      let (x, made, told) = one_line line segments old goes.said goes.between here goes.does in
+      let grown : next.devices.depot.log ≡ option_map (λ l. l ++ x) old.devices.depot.log = ap (λ (d : Devices). d.depot.log) goes.marked.devices ∙ made in
+      let (left, is, got) = stays files texts segments name segment (line_command line) old.kept goes.between.kept (All-head (λ l. takes_none (line_command l) ≡ true) line lines keeps) here.0 here.1
+      (moves files (line_command line) old goes.said goes.between (to (line_command line) old goes.said goes.between goes.does)) in
+      let more = lines_read lines left next ended new (goes.marked.kept ∙ is, got) (All-tail (λ l. takes_none (line_command l) ≡ true) line lines keeps) ends rest in
+      grew_then (Line line) (LinesRead table name segment.rows lines all_done) (LinesRead table name segment.rows (line ∷ lines) all_done) old.devices.depot.log next.devices.depot.log new.devices.depot.log x grown told more
+      (λ y. one_more table name segment.rows all_done line lines x y)
+
+pub script_reads : ScriptReads
+script_reads files texts segments table name segment lines old new is accepted got keeps = record {
+  at_most = λ ended runs.
+      grew_grown (LinesRead table name segment.rows lines false) old.devices.depot.log new.devices.depot.log
+      (lines_read files texts table accepted name segment false (Moves files) (λ command old ended new m. m) (λ command old ended new m bytes wanted. weaker (is_done ended) bytes wanted) lines segments old ended new (is, got) keeps (λ flag. absurd cc) runs);
+  just = λ runs.
+      grew_grown (LinesRead table name segment.rows lines true) old.devices.depot.log new.devices.depot.log
+      (lines_read files texts table accepted name segment true (Finishes files) (λ command old ended new f. f.moves) (λ command old ended new f bytes wanted are. subst (λ d. AreBytes d bytes wanted) (ap is_done f.done) are) lines segments old status.Done new (is, got) keeps
+      (λ flag. refl) runs);
+}

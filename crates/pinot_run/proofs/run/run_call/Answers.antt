@@ -1,0 +1,17 @@
+use Rattle.std.proofs.Common.{subst, sym}
+use Rattle.command_model.specs.World.{World, world}
+use Rattle.pinot_run.specs.Promise.{Promise}
+use Rattle.pinot_run.specs.Script.{Does}
+use Rattle.pinot_run.proofs.run.run_call.Goals as goal
+
+pub returns-in-Some : goal.returns-in-Some
+returns-in-Some g c =
+    let old : World = world g.I.Shelf g.D.Shelf g.O.Sink g.N.Sink c.args.inputs.now c.args.depot.now c.args.out.now c.args.notes.now in
+    let new : World = world g.I.Shelf g.D.Shelf g.O.Sink g.N.Sink c.run_script.new.inputs c.run_script.new.depot c.run_script.new.out c.run_script.new.notes in
+    subst (λ r. Does Promise r old c.run_script.result new) (sym c.in-Some.ensures) c.run_script.ensures
+
+pub returns-in-None : goal.returns-in-None
+returns-in-None g c =
+    let old : World = world g.I.Shelf g.D.Shelf g.O.Sink g.N.Sink c.args.inputs.now c.args.depot.now c.args.out.now c.args.notes.now in
+    let new : World = world g.I.Shelf g.D.Shelf g.O.Sink g.N.Sink c.run.new.inputs c.run.new.depot c.run.new.out c.run.new.notes in
+    subst (λ r. Does Promise r old c.run.result new) (sym c.in-None.ensures) c.run.ensures
