@@ -14,8 +14,8 @@ const READ_AHEAD: usize = 65_536;
 /// How many are read at once where a read goes on from a far one, if fewer are asked for.
 const FIRST_READ: usize = 16_384;
 
-/// How many are read at once from another place, if fewer are asked for: mostly no more is asked for
-/// there, as of a value that is looked up.
+/// How many are read at once from another place, if fewer are asked for: mostly no more is asked
+/// for there, as of a value that is looked up.
 const FAR_READ: usize = 4096;
 
 /// Reads go on where they leave out fewer bytes than so many: to read these too costs less than to
