@@ -11,9 +11,12 @@ use std::io::{ErrorKind, Read, Seek, SeekFrom};
 /// that are asked for next are mostly among them.
 const READ_AHEAD: usize = 65_536;
 
-/// How many are read at once from another place, if fewer are asked for: mostly little more is
-/// asked for there.
+/// How many are read at once where a read goes on from a far one, if fewer are asked for.
 const FIRST_READ: usize = 16_384;
+
+/// How many are read at once from another place, if fewer are asked for: mostly no more is asked
+/// for there, as of a value that is looked up.
+const FAR_READ: usize = 4096;
 
 /// Reads go on where they leave out fewer bytes than so many: to read these too costs less than to
 /// seek.
@@ -112,7 +115,7 @@ impl<F: Read + Seek + Drop> FileReader<F> {
         if into.len() >= FIRST_READ {
             return self.read_past(offset, into);
         }
-        self.read_ahead(offset)?;
+        self.read_ahead(offset, into.len())?;
         Ok(self.copy_some(offset, into))
     }
 
@@ -128,12 +131,13 @@ impl<F: Read + Seek + Drop> FileReader<F> {
         Ok(n)
     }
 
-    // Reads bytes ahead so that those from an offset on are among them, if there are any.
-    fn read_ahead(&mut self, offset: u64) -> io::Result<()>
+    // Reads bytes ahead so that those from an offset on are among them, if there are any: few from
+    // another place, and more where reads go on.
+    fn read_ahead(&mut self, offset: u64, wanted: usize) -> io::Result<()>
         requires { offset < 2 ^ 63 }
     {
         if self.next <= offset && offset - self.next < GAP {
-            let size = if self.held > 0 {
+            let size = if self.held > FAR_READ {
                 READ_AHEAD
             } else {
                 FIRST_READ
@@ -144,7 +148,12 @@ impl<F: Read + Seek + Drop> FileReader<F> {
             }
         }
         self.seek(offset)?;
-        self.fill(offset, FIRST_READ)
+        let size = if wanted > FAR_READ {
+            FIRST_READ
+        } else {
+            FAR_READ
+        };
+        self.fill(offset, size)
     }
 
     // Reads at most so many bytes ahead from an offset on, which the file is read from next.
