@@ -5,6 +5,7 @@ ghost use Rattle.values.specs.Order.{value_order};
 ghost use Rattle.values.specs.declared.value.Value as spec;
 ghost use Rattle.value_ids.specs.Ids.{Cuts, matching};
 ghost use Rattle.dictionary_reading.specs.Bounds.{AreCutsFrom, bounds_of};
+ghost use Rattle.dictionary_reading.specs.Calls.{Looks};
 ghost use Rattle.dictionary_reading.specs.InFile.{HasRoom, IsBlockOf, LogsInside, OfDictionary};
 
 use crate::{FileDictionary, LookupFault, bounds_of, matching_ids};
@@ -29,11 +30,8 @@ impl FileDictionary {
         ensures order { IfOk result (λ cut. cut.from ≤ cut.to) }
         ensures once { IfOk result (λ cut. cut.to ≤ cut.from + 1) }
         ensures within { IfOk result (λ cut. cut.to ≤ self.now.count) }
-        ensures bad { IsErrOf result LookupFault.NoDictionary →
-            OfDictionary self.now (S.held shelf.old) (λ _. ⊥) }
-        ensures only_reads { OnlyReads (IsErrOf result LookupFault.ReadFault)
-            (seen S.Shelf shelf.old) (seen S.Shelf shelf.new) }
-        ensures log { LogsInside self.now.place (520 * 21) (S.log shelf.old) (S.log shelf.new) }
+        ensures looks { Looks self.now (520 * 21)
+            (seen S.Shelf shelf.old) (seen S.Shelf shelf.new) result }
     {
         let mut low = 0;
         let mut high = self.count;
@@ -65,12 +63,8 @@ impl FileDictionary {
         requires room { HasRoom self.now }
         ensures ids { IfOk result (λ ids. OfDictionary self.now (S.held shelf.old)
             (λ d. ids ≡ matching test.now d.values)) }
-        ensures bad { IsErrOf result LookupFault.NoDictionary →
-            OfDictionary self.now (S.held shelf.old) (λ _. ⊥) }
-        ensures only_reads { OnlyReads (IsErrOf result LookupFault.ReadFault)
-            (seen S.Shelf shelf.old) (seen S.Shelf shelf.new) }
-        ensures log { LogsInside self.now.place (10920 * length (bounds_of test.now))
-            (S.log shelf.old) (S.log shelf.new) }
+        ensures looks { Looks self.now (10920 * length (bounds_of test.now))
+            (seen S.Shelf shelf.old) (seen S.Shelf shelf.new) result }
     {
         let bounds = bounds_of(alloc, test)?;
         let cuts = match self.cuts(alloc, shelf, &bounds) {
@@ -91,12 +85,8 @@ impl FileDictionary {
         ensures each { IfOk result (λ cuts. length cuts.items ≡ length bounds.now) }
         ensures cuts { IfOk result (λ cuts. OfDictionary self.now (S.held shelf.old)
             (λ d. AreCutsFrom 0 bounds.now cuts.items d.values)) }
-        ensures bad { IsErrOf result LookupFault.NoDictionary →
-            OfDictionary self.now (S.held shelf.old) (λ _. ⊥) }
-        ensures only_reads { OnlyReads (IsErrOf result LookupFault.ReadFault)
-            (seen S.Shelf shelf.old) (seen S.Shelf shelf.new) }
-        ensures log { LogsInside self.now.place (10920 * length bounds.now)
-            (S.log shelf.old) (S.log shelf.new) }
+        ensures looks { Looks self.now (10920 * length bounds.now)
+            (seen S.Shelf shelf.old) (seen S.Shelf shelf.new) result }
     {
         let mut cuts = Vec::with_capacity(alloc, bounds.len())?;
         'bounds: for bound in bounds {
@@ -120,11 +110,8 @@ impl FileDictionary {
         requires id { id < self.now.count }
         ensures order { IfOk result (λ order. OfDictionary self.now (S.held shelf.old)
             (λ d. (e : spec.Value) → value_order (get_or d.values id e) bound.now ≡ order)) }
-        ensures bad { IsErrOf result LookupFault.NoDictionary →
-            OfDictionary self.now (S.held shelf.old) (λ _. ⊥) }
-        ensures only_reads { OnlyReads (IsErrOf result LookupFault.ReadFault)
-            (seen S.Shelf shelf.old) (seen S.Shelf shelf.new) }
-        ensures log { LogsInside self.now.place 520 (S.log shelf.old) (S.log shelf.new) }
+        ensures looks { Looks self.now 520
+            (seen S.Shelf shelf.old) (seen S.Shelf shelf.new) result }
     {
         match self.value(alloc, shelf, id) {
             Ok(value) => Ok(value.cmp(bound)),
@@ -143,11 +130,8 @@ impl FileDictionary {
         requires id { id < self.now.count }
         ensures value { IfOk result (λ value. OfDictionary self.now (S.held shelf.old)
             (λ d. slice_get d.values id ≡ Some value)) }
-        ensures bad { IsErrOf result LookupFault.NoDictionary →
-            OfDictionary self.now (S.held shelf.old) (λ _. ⊥) }
-        ensures only_reads { OnlyReads (IsErrOf result LookupFault.ReadFault)
-            (seen S.Shelf shelf.old) (seen S.Shelf shelf.new) }
-        ensures log { LogsInside self.now.place 520 (S.log shelf.old) (S.log shelf.new) }
+        ensures looks { Looks self.now 520
+            (seen S.Shelf shelf.old) (seen S.Shelf shelf.new) result }
     {
         match self.block(alloc, shelf, id, id + 1) {
             Ok(block) => block.value(alloc, id),

@@ -3,6 +3,7 @@ ghost use Rattle.std.specs.Prelude.{◌≡◌, ◌≤◌, ◌<◌, ◌+◌, ◌-
 ghost use Rattle.outside.specs.Files.{Files};
 ghost use Rattle.outside.specs.Seen.{OnlyReads, seen};
 ghost use Rattle.dictionary.specs.Spelling.{texts};
+ghost use Rattle.dictionary_reading.specs.Calls.{Looks};
 ghost use Rattle.dictionary_reading.specs.InFile.{AreStarts, HasRoom, IsBlock, IsBlockOf, LogsInside, OfDictionary, part, room_of};
 
 use crate::{Block, LookupFault, four_at, read_part};
@@ -50,12 +51,8 @@ impl FileDictionary {
         ensures span { IfOk result (λ b. (b.from ≡ from) × (b.to ≡ to)) }
         ensures of { IfOk result (λ b.
             OfDictionary self.now (S.held shelf.old) (λ d. IsBlockOf d b)) }
-        ensures bad { IsErrOf result LookupFault.NoDictionary →
-            OfDictionary self.now (S.held shelf.old) (λ _. ⊥) }
-        ensures only_reads { OnlyReads (IsErrOf result LookupFault.ReadFault)
-            (seen S.Shelf shelf.old) (seen S.Shelf shelf.new) }
-        ensures log { LogsInside self.now.place (4 + 516 * (to - from))
-            (S.log shelf.old) (S.log shelf.new) }
+        ensures looks { Looks self.now (4 + 516 * (to - from))
+            (seen S.Shelf shelf.old) (seen S.Shelf shelf.new) result }
     {
         match self.kind {
             FieldKind::Int | FieldKind::Long => self.numbers(alloc, shelf, from, to),
@@ -81,12 +78,8 @@ impl FileDictionary {
         ensures span { IfOk result (λ b. (b.from ≡ from) × (b.to ≡ to)) }
         ensures of { IfOk result (λ b.
             OfDictionary self.now (S.held shelf.old) (λ d. IsBlockOf d b)) }
-        ensures bad { IsErrOf result LookupFault.NoDictionary →
-            OfDictionary self.now (S.held shelf.old) (λ _. ⊥) }
-        ensures only_reads { OnlyReads (IsErrOf result LookupFault.ReadFault)
-            (seen S.Shelf shelf.old) (seen S.Shelf shelf.new) }
-        ensures log { LogsInside self.now.place (8 * (to - from))
-            (S.log shelf.old) (S.log shelf.new) }
+        ensures looks { Looks self.now (8 * (to - from))
+            (seen S.Shelf shelf.old) (seen S.Shelf shelf.new) result }
     {
         let at = 4 + 8 * u64::from(from);
         let body = match read_part(alloc, shelf, &self.place, at, 8 * u64::from(to - from)) {
@@ -111,12 +104,8 @@ impl FileDictionary {
         ensures size { IfOk result (λ starts. length starts ≡ 4 * (to - from) + 4) }
         ensures of { IfOk result (λ starts. OfDictionary self.now (S.held shelf.old)
             (λ d. AreStarts d.values from to starts)) }
-        ensures bad { IsErrOf result LookupFault.NoDictionary →
-            OfDictionary self.now (S.held shelf.old) (λ _. ⊥) }
-        ensures only_reads { OnlyReads (IsErrOf result LookupFault.ReadFault)
-            (seen S.Shelf shelf.old) (seen S.Shelf shelf.new) }
-        ensures log { LogsInside self.now.place (4 * (to - from) + 4)
-            (S.log shelf.old) (S.log shelf.new) }
+        ensures looks { Looks self.now (4 * (to - from) + 4)
+            (seen S.Shelf shelf.old) (seen S.Shelf shelf.new) result }
     {
         let at = 4 + 4 * u64::from(from);
         let size = 4 * u64::from(to - from) + 4;
@@ -172,12 +161,8 @@ impl FileDictionary {
         ensures span { IfOk result (λ b. (b.from ≡ from) × (b.to ≡ to)) }
         ensures of { IfOk result (λ b.
             OfDictionary self.now (S.held shelf.old) (λ d. IsBlockOf d b)) }
-        ensures bad { IsErrOf result LookupFault.NoDictionary →
-            OfDictionary self.now (S.held shelf.old) (λ _. ⊥) }
-        ensures only_reads { OnlyReads (IsErrOf result LookupFault.ReadFault)
-            (seen S.Shelf shelf.old) (seen S.Shelf shelf.new) }
-        ensures log { LogsInside self.now.place (4 + 516 * (to - from))
-            (S.log shelf.old) (S.log shelf.new) }
+        ensures looks { Looks self.now (4 + 516 * (to - from))
+            (seen S.Shelf shelf.old) (seen S.Shelf shelf.new) result }
     {
         let starts = match self.starts(alloc, shelf, from, to) {
             Ok(starts) => starts,

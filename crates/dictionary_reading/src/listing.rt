@@ -3,6 +3,7 @@ ghost use Rattle.std.specs.Prelude.{◌≡◌, ◌≤◌, ◌<◌, ◌+◌, ◌-
 ghost use Rattle.outside.specs.Seen.{OnlyReads, seen};
 ghost use Rattle.value_ids.specs.Coding.{values_at};
 ghost use Rattle.value_ids.specs.Dictionary.{Distinct};
+ghost use Rattle.dictionary_reading.specs.Calls.{Looks};
 ghost use Rattle.dictionary_reading.specs.InFile.{HasRoom, IsBlock, IsBlockOf, LogsInside, OfDictionary, part};
 
 use crate::{Block, FileDictionary, LookupFault};
@@ -28,12 +29,8 @@ impl FileDictionary {
         requires below { All (λ id. id < self.now.count) ids.now }
         ensures values { IfOk result (λ values. OfDictionary self.now (S.held shelf.old)
             (λ d. values.items ≡ values_at d.values ids.now)) }
-        ensures bad { IsErrOf result LookupFault.NoDictionary →
-            OfDictionary self.now (S.held shelf.old) (λ _. ⊥) }
-        ensures only_reads { OnlyReads (IsErrOf result LookupFault.ReadFault)
-            (seen S.Shelf shelf.old) (seen S.Shelf shelf.new) }
-        ensures log { LogsInside self.now.place (528388 * length ids.now)
-            (S.log shelf.old) (S.log shelf.new) }
+        ensures looks { Looks self.now (528388 * length ids.now)
+            (seen S.Shelf shelf.old) (seen S.Shelf shelf.new) result }
     {
         let mut values = Vec::with_capacity(alloc, ids.len())?;
         let mut done = 0;

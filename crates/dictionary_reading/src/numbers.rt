@@ -4,6 +4,7 @@ ghost use Rattle.outside.specs.Seen.{OnlyReads, seen};
 ghost use Rattle.values.specs.declared.value.Value.TheVariants as value;
 ghost use Rattle.value_ids.specs.Coding.{values_at};
 ghost use Rattle.value_ids.specs.Dictionary.{Distinct};
+ghost use Rattle.dictionary_reading.specs.Calls.{Looks};
 ghost use Rattle.dictionary_reading.specs.InFile.{HasRoom, IsBlock, IsBlockOf, LogsInside, OfDictionary};
 
 use crate::listing::count_near;
@@ -29,12 +30,8 @@ impl FileDictionary {
         ensures numbers { IfOk result (λ numbers. OfDictionary self.now (S.held shelf.old)
             (λ d. map value.Whole numbers.items ≡ values_at d.values ids.now)) }
         ensures count { IfOk result (λ numbers. length numbers.items ≡ length ids.now) }
-        ensures bad { IsErrOf result LookupFault.NoDictionary →
-            OfDictionary self.now (S.held shelf.old) (λ _. ⊥) }
-        ensures only_reads { OnlyReads (IsErrOf result LookupFault.ReadFault)
-            (seen S.Shelf shelf.old) (seen S.Shelf shelf.new) }
-        ensures log { LogsInside self.now.place (8192 * length ids.now)
-            (S.log shelf.old) (S.log shelf.new) }
+        ensures looks { Looks self.now (8192 * length ids.now)
+            (seen S.Shelf shelf.old) (seen S.Shelf shelf.new) result }
     {
         let mut numbers = Vec::with_capacity(alloc, ids.len())?;
         let mut done = 0;
@@ -61,12 +58,8 @@ impl FileDictionary {
         ensures numbers { IfOk result (λ numbers. OfDictionary self.now (S.held shelf.old)
             (λ d. map value.Whole numbers.items ≡ d.values)) }
         ensures count { IfOk result (λ numbers. length numbers.items ≡ self.now.count) }
-        ensures bad { IsErrOf result LookupFault.NoDictionary →
-            OfDictionary self.now (S.held shelf.old) (λ _. ⊥) }
-        ensures only_reads { OnlyReads (IsErrOf result LookupFault.ReadFault)
-            (seen S.Shelf shelf.old) (seen S.Shelf shelf.new) }
-        ensures log { LogsInside self.now.place (8 * self.now.count)
-            (S.log shelf.old) (S.log shelf.new) }
+        ensures looks { Looks self.now (8 * self.now.count)
+            (seen S.Shelf shelf.old) (seen S.Shelf shelf.new) result }
     {
         let mut numbers = Vec::with_capacity(alloc, self.count as usize)?;
         let mut done = 0;

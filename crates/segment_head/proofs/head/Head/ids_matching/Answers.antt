@@ -18,7 +18,7 @@ returns-in-Ok-ids_matching-clause-reads g c =
     let new : outside.Seen = seen g.S.Shelf c.ids_matching.new.shelf in
     let l = c.in-Ok.dictionary in
     let is : IsFound c.args.table.now c.args.self.now c.args.column l old mid = record { column_is = c.requires; place = c.in-Ok.ensures.place; kind = c.in-Ok.ensures.kind; reads = c.in-Ok.ensures.reads } in
-    lookup_ok c.args.table.now c.args.self.now c.args.column l old mid new P c.in-Ok-ids_matching.ids is c.in-Ok-ids_matching.ensures.ids c.in-Ok-ids_matching.ensures.only_reads
+    lookup_ok c.args.table.now c.args.self.now c.args.column l old mid new P c.in-Ok-ids_matching.ids is c.in-Ok-ids_matching.ensures.ids c.in-Ok-ids_matching.ensures.looks.only_reads
 
 pub returns-clause-reads : goal.returns-clause-reads
 returns-clause-reads g c =
@@ -30,7 +30,7 @@ returns-clause-reads g c =
     let l = c.in-Ok.dictionary in
     let is : IsFound c.args.table.now c.args.self.now c.args.column l old mid = record { column_is = c.requires; place = c.in-Ok.ensures.place; kind = c.in-Ok.ensures.kind; reads = c.in-Ok.ensures.reads } in
     let of : IsFaultOf c.args.column c.in-Err-ids_matching.fault c.of_lookup.result = record { bad = c.of_lookup.ensures.bad; memory = c.of_lookup.ensures.memory; read = c.of_lookup.ensures.read } in
-    lookup_err c.args.table.now c.args.self.now c.args.column l old mid new Whole c.in-Err-ids_matching.fault c.of_lookup.result is of c.in-Err-ids_matching.ensures.bad c.in-Err-ids_matching.ensures.only_reads
+    lookup_err c.args.table.now c.args.self.now c.args.column l old mid new Whole c.in-Err-ids_matching.fault c.of_lookup.result is of c.in-Err-ids_matching.ensures.looks.refused c.in-Err-ids_matching.ensures.looks.only_reads
 
 pub returns-in-Ok-ids_matching-clause-log : goal.returns-in-Ok-ids_matching-clause-log
 returns-in-Ok-ids_matching-clause-log g c =
@@ -39,7 +39,7 @@ returns-in-Ok-ids_matching-clause-log g c =
     let new : outside.Seen = seen g.S.Shelf c.ids_matching.new.shelf in
     let l = c.in-Ok.dictionary in
     let is : IsFound c.args.table.now c.args.self.now c.args.column l old mid = record { column_is = c.requires; place = c.in-Ok.ensures.place; kind = c.in-Ok.ensures.kind; reads = c.in-Ok.ensures.reads } in
-    lookup_logs c.args.table.now c.args.self.now c.args.column l old mid new (10920 * length (bounds_of c.args.test.now)) (4 + 10920 * length (bounds_of c.args.test.now)) is c.in-Ok.ensures.log c.in-Ok-ids_matching.ensures.log (omega arith)
+    lookup_logs c.args.table.now c.args.self.now c.args.column l old mid new (10920 * length (bounds_of c.args.test.now)) (4 + 10920 * length (bounds_of c.args.test.now)) is c.in-Ok.ensures.log c.in-Ok-ids_matching.ensures.looks.log (omega arith)
 
 pub returns-clause-log : goal.returns-clause-log
 returns-clause-log g c =
@@ -48,4 +48,4 @@ returns-clause-log g c =
     let new : outside.Seen = seen g.S.Shelf c.ids_matching.new.shelf in
     let l = c.in-Ok.dictionary in
     let is : IsFound c.args.table.now c.args.self.now c.args.column l old mid = record { column_is = c.requires; place = c.in-Ok.ensures.place; kind = c.in-Ok.ensures.kind; reads = c.in-Ok.ensures.reads } in
-    lookup_logs c.args.table.now c.args.self.now c.args.column l old mid new (10920 * length (bounds_of c.args.test.now)) (4 + 10920 * length (bounds_of c.args.test.now)) is c.in-Ok.ensures.log c.in-Err-ids_matching.ensures.log (omega arith)
+    lookup_logs c.args.table.now c.args.self.now c.args.column l old mid new (10920 * length (bounds_of c.args.test.now)) (4 + 10920 * length (bounds_of c.args.test.now)) is c.in-Ok.ensures.log c.in-Err-ids_matching.ensures.looks.log (omega arith)

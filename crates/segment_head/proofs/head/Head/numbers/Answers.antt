@@ -26,7 +26,7 @@ returns-in-Ok-numbers_at-clause-reads g c =
     let new : outside.Seen = seen g.S.Shelf c.numbers_at.new.shelf in
     let l = c.in-Ok.dictionary in
     let is : IsFound c.args.table.now c.args.self.now c.args.column l old mid = record { column_is = c.requires.column; place = c.in-Ok.ensures.place; kind = c.in-Ok.ensures.kind; reads = c.in-Ok.ensures.reads } in
-    where_of Whole (OfColumn c.args.column (λ d. AreBelow (length d.values) c.args.ids.now)) c.args.table.now c.args.self.now old new c.in-Ok-numbers_at.numbers (lookup_ok c.args.table.now c.args.self.now c.args.column l old mid new P c.in-Ok-numbers_at.numbers is c.in-Ok-numbers_at.ensures.numbers c.in-Ok-numbers_at.ensures.only_reads)
+    where_of Whole (OfColumn c.args.column (λ d. AreBelow (length d.values) c.args.ids.now)) c.args.table.now c.args.self.now old new c.in-Ok-numbers_at.numbers (lookup_ok c.args.table.now c.args.self.now c.args.column l old mid new P c.in-Ok-numbers_at.numbers is c.in-Ok-numbers_at.ensures.numbers c.in-Ok-numbers_at.ensures.looks.only_reads)
 
 pub returns-clause-reads : goal.returns-clause-reads
 returns-clause-reads g c =
@@ -38,7 +38,7 @@ returns-clause-reads g c =
     let l = c.in-Ok.dictionary in
     let is : IsFound c.args.table.now c.args.self.now c.args.column l old mid = record { column_is = c.requires.column; place = c.in-Ok.ensures.place; kind = c.in-Ok.ensures.kind; reads = c.in-Ok.ensures.reads } in
     let of : IsFaultOf c.args.column c.in-Err-numbers_at.fault c.of_lookup.result = record { bad = c.of_lookup.ensures.bad; memory = c.of_lookup.ensures.memory; read = c.of_lookup.ensures.read } in
-    where_err Whole Whole (OfColumn c.args.column (λ d. AreBelow (length d.values) c.args.ids.now)) c.args.table.now c.args.self.now old new c.of_lookup.result (lookup_err c.args.table.now c.args.self.now c.args.column l old mid new Whole c.in-Err-numbers_at.fault c.of_lookup.result is of c.in-Err-numbers_at.ensures.bad c.in-Err-numbers_at.ensures.only_reads)
+    where_err Whole Whole (OfColumn c.args.column (λ d. AreBelow (length d.values) c.args.ids.now)) c.args.table.now c.args.self.now old new c.of_lookup.result (lookup_err c.args.table.now c.args.self.now c.args.column l old mid new Whole c.in-Err-numbers_at.fault c.of_lookup.result is of c.in-Err-numbers_at.ensures.looks.refused c.in-Err-numbers_at.ensures.looks.only_reads)
 
 pub returns-in-Ok-numbers_at-clause-log : goal.returns-in-Ok-numbers_at-clause-log
 returns-in-Ok-numbers_at-clause-log g c =
@@ -47,7 +47,7 @@ returns-in-Ok-numbers_at-clause-log g c =
     let new : outside.Seen = seen g.S.Shelf c.numbers_at.new.shelf in
     let l = c.in-Ok.dictionary in
     let is : IsFound c.args.table.now c.args.self.now c.args.column l old mid = record { column_is = c.requires.column; place = c.in-Ok.ensures.place; kind = c.in-Ok.ensures.kind; reads = c.in-Ok.ensures.reads } in
-    lookup_logs c.args.table.now c.args.self.now c.args.column l old mid new (8192 * length c.args.ids.now) (4 + 8192 * length c.args.ids.now) is c.in-Ok.ensures.log c.in-Ok-numbers_at.ensures.log (omega arith)
+    lookup_logs c.args.table.now c.args.self.now c.args.column l old mid new (8192 * length c.args.ids.now) (4 + 8192 * length c.args.ids.now) is c.in-Ok.ensures.log c.in-Ok-numbers_at.ensures.looks.log (omega arith)
 
 pub returns-clause-log : goal.returns-clause-log
 returns-clause-log g c =
@@ -56,7 +56,7 @@ returns-clause-log g c =
     let new : outside.Seen = seen g.S.Shelf c.numbers_at.new.shelf in
     let l = c.in-Ok.dictionary in
     let is : IsFound c.args.table.now c.args.self.now c.args.column l old mid = record { column_is = c.requires.column; place = c.in-Ok.ensures.place; kind = c.in-Ok.ensures.kind; reads = c.in-Ok.ensures.reads } in
-    lookup_logs c.args.table.now c.args.self.now c.args.column l old mid new (8192 * length c.args.ids.now) (4 + 8192 * length c.args.ids.now) is c.in-Ok.ensures.log c.in-Err-numbers_at.ensures.log (omega arith)
+    lookup_logs c.args.table.now c.args.self.now c.args.column l old mid new (8192 * length c.args.ids.now) (4 + 8192 * length c.args.ids.now) is c.in-Ok.ensures.log c.in-Err-numbers_at.ensures.looks.log (omega arith)
 
 pub returns-then-not-are_below-clause-reads : goal.returns-then-not-are_below-clause-reads
 returns-then-not-are_below-clause-reads g c =
