@@ -54,19 +54,18 @@ impl Ids {
         }
     }
 
-    /// The ids of some rows from one on, in four bytes each, in place of others.
-    pub fn between(&self, from: usize, many: usize, own: &mut Vec<u32>) -> Result<(), NoMemory>
+    /// The ids of some rows from one on where they lie.
+    #[inline(always)]
+    pub fn between(&self, from: usize, many: usize) -> IdSlices<'_>
         requires { from + many ≤ length self.now }
-        ensures count { OnOk result (length own.new.items ≡ many) }
-        ensures each { OnOk result ((at : ℕ) → at < many
-            → get_or own.new.items at 0 ≡ get_or self.now (from + at) 0) }
+        ensures count { length (seen_ids result) ≡ many }
+        ensures each { (at : ℕ) → at < many
+            → get_or (seen_ids result) at 0 ≡ get_or self.now (from + at) 0 }
     {
-        own.resize(many, 0)?;
         match &self.room {
-            IdRoom::Narrow(ids) => widen(&ids[from..from + many], own),
-            IdRoom::Wide(ids) => own.copy_from_slice(&ids[from..from + many]),
+            IdRoom::Narrow(ids) => IdSlices::Narrow(&ids[from..from + many]),
+            IdRoom::Wide(ids) => IdSlices::Wide(&ids[from..from + many]),
         }
-        Ok(())
     }
 
     /// The ids where they lie, for a loop over many rows.
@@ -98,23 +97,6 @@ impl IdSlices<'_> {
         match self {
             IdSlices::Narrow(ids) => u32::from(ids[row]),
             IdSlices::Wide(ids) => ids[row],
-        }
-    }
-
-    /// The id of a row; 0 where there is none.
-    #[inline(always)]
-    pub fn at_or_0(self, row: usize) -> u32
-        ensures { result ≡ get_or (seen_ids self.entry) row 0 }
-    {
-        match self {
-            IdSlices::Narrow(ids) => match ids.get(row) {
-                Some(id) => u32::from(*id),
-                None => 0,
-            },
-            IdSlices::Wide(ids) => match ids.get(row) {
-                Some(id) => *id,
-                None => 0,
-            },
         }
     }
 }
@@ -170,16 +152,6 @@ fn append_narrow(block: &[u32], ids: &mut Vec<u16>) -> Result<(), NoMemory>
     ids.resize(start + block.len(), 0)?;
     narrow(block, &mut ids[start..]);
     Ok(())
-}
-
-// Copies ids of two bytes each.
-fn widen(ids: &[u16], out: &mut [u32])
-    requires { length out.old ≡ length ids.now }
-    ensures { out.new ≡ ids.now }
-{
-    for at in 0..ids.len() {
-        out[at] = u32::from(ids[at]);
-    }
 }
 
 // Copies ids into two bytes each.

@@ -16,7 +16,7 @@ mod slots;
 mod summing;
 
 pub use coded::{Coded, SegmentColumns};
-pub use ids::{IdRoom, Ids};
+pub use ids::{IdRoom, IdSlices, Ids};
 pub use keyed_rows::{KeyRoom, KeyedRows};
 pub use keys::key_count;
 pub use placed_rows::PlacedRows;

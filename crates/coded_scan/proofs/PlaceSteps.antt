@@ -53,3 +53,7 @@ front_of old zeros long start more is lengths =
     ap (take start) is
     ∙ ap (λ l. take start (l ++ zeros)) (take_all (start + more) old (omega (arith, lengths)))
     ∙ take_at old zeros start lengths
+
+-- what is at the front of a part is at the front of the whole
+pub front_kept : (part rest : List ℕ) (count : ℕ) (front : List ℕ) → count ≤ length part → take count part ≡ front → take count (part ++ rest) ≡ front
+front_kept part rest count front few is = take-append-le count part rest few ∙ is

@@ -1,12 +1,13 @@
 //! The rows of a segment that conditions let through, kept by their keys.
 
-ghost use Rattle.std.specs.Prelude.{◌≡◌, ◌-◌, ◌+◌, ◌≤◌, IfOk};
-ghost use Rattle.coded_columns.specs.Keyed.{HoldsRows};
+ghost use Rattle.std.specs.Prelude.{◌≡◌, ◌-◌, ◌+◌, ◌++◌, ◌≤◌, [], IfOk, OnOk, length};
+ghost use Rattle.coded_columns.specs.Keyed.{HoldsPacked, HoldsRows};
 ghost use Rattle.coded_columns.specs.Keys.{AreKeys};
 ghost use Rattle.coded_scan.specs.Passed.{passed};
+ghost use Rattle.coded_scan.specs.RowFilters.{all_let, passing};
 
 use crate::filtered_rows::FilteredRows;
-use crate::selection::{Block, push_block};
+use crate::selection::{Block, put_block};
 use coded_columns::{KeyRoom, KeyedRows, PlacedRows, key_count};
 use std::alloc::Global;
 use table_schema::BoundQuery;
@@ -50,26 +51,50 @@ fn keyed_by_ids(
     ensures { IfOk result (HoldsRows rows.entry.segment.now query.now.groups query.now.aggs
         (passed rows.entry)) }
 {
+    let mut keyed = KeyedRows::new(alloc, query.aggs.as_slice(), size)?;
+    let mut places = block_room(alloc, BLOCK)?;
+    add_blocks(alloc, query, rows, &mut keyed, &mut places)?;
+    Ok(keyed)
+}
+
+// Room for so many places.
+fn block_room(alloc: Global, size: usize) -> Result<Vec<u32>, NoMemory>
+    ensures { IfOk result (λ room. length room.items ≡ size) }
+{
+    let room = vec![in alloc; 0u32; size]?;
+    Ok(room)
+}
+
+// Adds the rows that conditions let through to what is kept of none, with room for the places of a
+// block.
+fn add_blocks(
+    alloc: Global,
+    query: &BoundQuery,
+    rows: FilteredRows<'_, '_>,
+    keyed: &mut KeyedRows,
+    places: &mut [u32],
+) -> Result<(), NoMemory>
+    requires room { length places.old ≡ 4096 }
+    requires none { HoldsPacked rows.segment.now query.now.groups query.now.aggs [] keyed.old }
+    ensures { OnOk result (HoldsPacked rows.entry.segment.now query.now.groups query.now.aggs
+        (passed rows.entry) keyed.new) }
+{
     let groups = query.groups.as_slice();
     let aggs = query.aggs.as_slice();
     let count = rows.segment.count;
-    let mut keyed = KeyedRows::new(alloc, aggs, size)?;
     let mut room = KeyRoom::new(alloc);
-    let mut places = Vec::with_capacity(alloc, BLOCK)?;
-    let mut own = Vec::with_capacity(alloc, BLOCK)?;
     let mut from = 0;
     for _ in 0..count / BLOCK + 1 {
         let block = block_from(from, count);
-        places.clear();
-        push_block(alloc, rows.row_filters, count, block, &mut places, &mut own)?;
+        let many = put_block(alloc, rows, block, &mut places[..block.length])?;
         let placed = PlacedRows {
             segment: rows.segment,
-            places: places.as_slice(),
+            places: &places[..many],
         };
         keyed.add(placed, groups, aggs, &mut room)?;
         from += block.length;
     }
-    Ok(keyed)
+    Ok(())
 }
 
 // The places of the rows that conditions let through.
@@ -78,14 +103,31 @@ fn places_of(alloc: Global, rows: FilteredRows<'_, '_>) -> Result<Vec<u32>, NoMe
 {
     let count = rows.segment.count;
     let mut places = Vec::with_capacity(alloc, BLOCK)?;
-    let mut own = Vec::with_capacity(alloc, BLOCK)?;
     let mut from = 0;
     for _ in 0..count / BLOCK + 1 {
         let block = block_from(from, count);
-        push_block(alloc, rows.row_filters, count, block, &mut places, &mut own)?;
+        push_block(alloc, rows, block, &mut places)?;
         from += block.length;
     }
     Ok(places)
+}
+
+// Adds the places of those rows of a block that conditions let through.
+fn push_block(
+    alloc: Global,
+    rows: FilteredRows<'_, '_>,
+    block: Block,
+    places: &mut Vec<u32>,
+) -> Result<(), NoMemory>
+    requires { block.from + block.length ≤ rows.segment.now.count }
+    ensures { OnOk result (places.new.items ≡ places.old.items
+        ++ passing (λ at. all_let at rows.entry.row_filters.now) block.from block.length) }
+{
+    let start = places.len();
+    places.resize(start + block.length, 0)?;
+    let count = put_block(alloc, rows, block, &mut places[start..])?;
+    places.truncate(start + count);
+    Ok(())
 }
 
 // The block that begins with a row.
@@ -93,6 +135,7 @@ fn block_from(from: usize, count: usize) -> Block
     requires { from ≤ count }
     ensures from { result.from ≡ from }
     ensures within { from + result.length ≤ count }
+    ensures few { result.length ≤ 4096 }
     ensures left { count - (from + result.length) ≤ count - from - 4096 }
 {
     let left = count - from;

@@ -1,33 +1,14 @@
 //! The places of the rows of a block that are marked.
 
-ghost use Rattle.std.specs.Prelude.{◌≡◌, ◌+◌, ◌<◌, ◌≤◌, ◌++◌, ℕ, Bool, OnOk, get_or, false, length, take};
+ghost use Rattle.std.specs.Prelude.{◌≡◌, ◌+◌, ◌<◌, ◌≤◌, ℕ, Bool, get_or, false, length, take};
 ghost use Rattle.coded_columns.specs.Coded.{most_rows};
 ghost use Rattle.coded_scan.specs.RowFilters.{passing};
-
-use crate::selection::Block;
-use values::NoMemory;
 
 /// So many marks are looked at together, and one by one only where one of them is set.
 const STRETCH: usize = 32;
 
-/// Adds the places of the rows of a block that are marked.
-pub fn push_marked(block: Block, marks: &[bool], places: &mut Vec<u32>) -> Result<(), NoMemory>
-    requires count { length marks.now ≡ block.length }
-    requires at_most { block.from + block.length ≤ most_rows }
-    ensures { (holds : ℕ → Bool) → ((at : ℕ) → at < block.length
-        → get_or marks.now at false ≡ holds (block.from + at))
-        → OnOk result (places.new.items ≡ places.old.items
-        ++ passing holds block.from block.length) }
-{
-    let start = places.len();
-    places.resize(start + block.length, 0)?;
-    let count = put_marked(block.from as u32, marks, &mut places[start..]);
-    places.truncate(start + count);
-    Ok(())
-}
-
-// Puts the places of the rows that are marked to the front, and says how many they are.
-fn put_marked(from: u32, marks: &[bool], out: &mut [u32]) -> usize
+/// Puts the places of the rows that are marked to the front, and says how many they are.
+pub fn put_marked(from: u32, marks: &[bool], out: &mut [u32]) -> usize
     requires room { length out.old ≡ length marks.now }
     requires at_most { from + length marks.now ≤ most_rows }
     ensures count { result ≤ length marks.now }

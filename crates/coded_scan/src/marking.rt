@@ -4,17 +4,20 @@ ghost use Rattle.std.specs.Prelude.{◌≡◌, ◌&&◌, ◌||◌, ◌+◌, ◌<
 ghost use Rattle.value_ids.specs.Ids.{has_id};
 ghost use Rattle.scan_engine.specs.Selection.{Keeps};
 ghost use Rattle.coded_columns.specs.Coded.{Widens};
+ghost use Rattle.coded_columns.specs.Ids.{seen_ids};
 ghost use Rattle.coded_scan.specs.RowFilters.{covers, lets};
 
 use crate::row_filter::RowFilter;
+use coded_columns::IdSlices;
 use std::alloc::Global;
 use value_ids::IdSet;
 use values::NoMemory;
 
 /// Leaves the marks of the rows whose id is in a set.
-pub fn keep_ids(marks: &mut [bool], ids: &[u32], matching: &IdSet)
-    requires { length marks.old ≡ length ids.now }
-    ensures { Keeps (λ at. has_id matching.now (get_or ids.now at 0)) marks.old marks.new }
+pub fn keep_ids(marks: &mut [bool], ids: IdSlices<'_>, matching: &IdSet)
+    requires { length marks.old ≡ length (seen_ids ids) }
+    ensures { Keeps (λ at. has_id matching.now (get_or (seen_ids ids.entry) at 0))
+        marks.old marks.new }
 {
     match matching.as_slice() {
         [only] => keep_only(marks, ids, *only),
@@ -31,7 +34,28 @@ fn is_kept(mark: bool, holds: bool) -> bool
 }
 
 // Leaves the marks of the rows of one id.
-fn keep_only(marks: &mut [bool], ids: &[u32], only: u32)
+fn keep_only(marks: &mut [bool], ids: IdSlices<'_>, only: u32)
+    requires { length marks.old ≡ length (seen_ids ids) }
+    ensures { Keeps (λ at. nat_eq (get_or (seen_ids ids.entry) at 0) only) marks.old marks.new }
+{
+    match ids {
+        IdSlices::Narrow(ids) => keep_narrow(marks, ids, only),
+        IdSlices::Wide(ids) => keep_wide(marks, ids, only),
+    }
+}
+
+// The same where an id takes two bytes.
+fn keep_narrow(marks: &mut [bool], ids: &[u16], only: u32)
+    requires { length marks.old ≡ length ids.now }
+    ensures { Keeps (λ at. nat_eq (get_or ids.now at 0) only) marks.old marks.new }
+{
+    for at in 0..marks.len() {
+        marks[at] = is_kept(marks[at], u32::from(ids[at]) == only);
+    }
+}
+
+// The same where an id takes four bytes.
+fn keep_wide(marks: &mut [bool], ids: &[u32], only: u32)
     requires { length marks.old ≡ length ids.now }
     ensures { Keeps (λ at. nat_eq (get_or ids.now at 0) only) marks.old marks.new }
 {
@@ -41,12 +65,13 @@ fn keep_only(marks: &mut [bool], ids: &[u32], only: u32)
 }
 
 // Leaves the marks of the rows whose id has its bit in the mask of a set.
-fn keep_any(marks: &mut [bool], ids: &[u32], matching: &IdSet)
-    requires { length marks.old ≡ length ids.now }
-    ensures { Keeps (λ at. has_id matching.now (get_or ids.now at 0)) marks.old marks.new }
+fn keep_any(marks: &mut [bool], ids: IdSlices<'_>, matching: &IdSet)
+    requires { length marks.old ≡ length (seen_ids ids) }
+    ensures { Keeps (λ at. has_id matching.now (get_or (seen_ids ids.entry) at 0))
+        marks.old marks.new }
 {
     for at in 0..marks.len() {
-        marks[at] = is_kept(marks[at], matching.contains(ids[at]));
+        marks[at] = is_kept(marks[at], matching.contains(ids.at(at)));
     }
 }
 
@@ -94,7 +119,6 @@ pub fn marks_of(
     from: usize,
     many: usize,
     row_filter: &RowFilter<'_>,
-    own: &mut Vec<u32>,
 ) -> Result<Vec<bool>, NoMemory>
     requires covers { covers count row_filter.now ≡ true }
     requires within { from + many ≤ count }
@@ -104,8 +128,7 @@ pub fn marks_of(
 {
     match row_filter {
         RowFilter::Ids(ids, matching) => {
-            ids.between(from, many, own)?;
-            let marks = marks_of_ids(alloc, own.as_slice(), matching)?;
+            let marks = marks_of_ids(alloc, ids.between(from, many), many, matching)?;
             Ok(marks)
         }
         RowFilter::Fixed(holds) => {
@@ -115,7 +138,7 @@ pub fn marks_of(
         RowFilter::All(inner) => {
             let mut marks = same_marks(alloc, true, many)?;
             for member in inner.as_slice() {
-                let others = marks_of(alloc, count, from, many, member, own)?;
+                let others = marks_of(alloc, count, from, many, member)?;
                 keep_marked(&mut marks, &others);
             }
             Ok(marks)
@@ -123,7 +146,7 @@ pub fn marks_of(
         RowFilter::Any(inner) => {
             let mut marks = same_marks(alloc, false, many)?;
             for member in inner.as_slice() {
-                let others = marks_of(alloc, count, from, many, member, own)?;
+                let others = marks_of(alloc, count, from, many, member)?;
                 add_marked(&mut marks, &others);
             }
             Ok(marks)
@@ -141,13 +164,19 @@ fn same_marks(alloc: Global, holds: bool, many: usize) -> Result<Vec<bool>, NoMe
     Ok(marks)
 }
 
-// A mark for each row, whether its id is in a set.
-fn marks_of_ids(alloc: Global, ids: &[u32], matching: &IdSet) -> Result<Vec<bool>, NoMemory>
-    ensures count { IfOk result (λ marks. length marks.items ≡ length ids.now) }
-    ensures each { IfOk result (λ marks. (at : ℕ) → at < length ids.now
-        → get_or marks.items at false ≡ has_id matching.now (get_or ids.now at 0)) }
+// A mark for each of so many rows, whether its id is in a set.
+fn marks_of_ids(
+    alloc: Global,
+    ids: IdSlices<'_>,
+    many: usize,
+    matching: &IdSet,
+) -> Result<Vec<bool>, NoMemory>
+    requires { length (seen_ids ids) ≡ many }
+    ensures count { IfOk result (λ marks. length marks.items ≡ many) }
+    ensures each { IfOk result (λ marks. (at : ℕ) → at < many
+        → get_or marks.items at false ≡ has_id matching.now (get_or (seen_ids ids.entry) at 0)) }
 {
-    let mut marks = vec![in alloc; true; ids.len()]?;
+    let mut marks = vec![in alloc; true; many]?;
     keep_ids(&mut marks, ids, matching);
     Ok(marks)
 }

@@ -1,11 +1,12 @@
 //! The places of the rows of a block that conditions let through.
 
-ghost use Rattle.std.specs.Prelude.{◌≡◌, ◌+◌, ◌<◌, ◌≤◌, ◌++◌, ℕ, IfOk, OnOk, get_or, false, true, length};
+ghost use Rattle.std.specs.Prelude.{◌≡◌, ◌+◌, ◌<◌, ◌≤◌, ℕ, IfOk, OnOk, get_or, false, true, length, take};
 ghost use Rattle.scan_engine.specs.Selection.{Keeps};
 ghost use Rattle.coded_columns.specs.Coded.{most_rows};
 ghost use Rattle.coded_scan.specs.RowFilters.{AllCover, all_let, covers, lets, passing};
 
-use crate::marked_places::{has_mark, push_marked};
+use crate::filtered_rows::FilteredRows;
+use crate::marked_places::{has_mark, put_marked};
 use crate::marking::{keep_ids, keep_if, keep_marked, marks_of};
 use crate::row_filter::RowFilter;
 use std::alloc::Global;
@@ -18,27 +19,26 @@ pub struct Block {
     pub length: usize,
 }
 
-/// Adds the places of those rows of a block that all conditions let through. The ids of a block are
-/// put in the place of others.
-pub fn push_block(
+/// Puts the places of those rows of a block that all conditions let through to the front of room
+/// for all of its rows, and says how many they are.
+pub fn put_block(
     alloc: Global,
-    row_filters: &[RowFilter<'_>],
-    count: usize,
+    rows: FilteredRows<'_, '_>,
     block: Block,
-    places: &mut Vec<u32>,
-    own: &mut Vec<u32>,
-) -> Result<(), NoMemory>
-    requires covers { AllCover count row_filters.now }
-    requires within { block.from + block.length ≤ count }
-    requires at_most { count ≤ most_rows }
-    ensures { OnOk result (places.new.items ≡ places.old.items
-        ++ passing (λ at. all_let at row_filters.now) block.from block.length) }
+    out: &mut [u32],
+) -> Result<usize, NoMemory>
+    requires within { block.from + block.length ≤ rows.segment.now.count }
+    requires room { length out.old ≡ block.length }
+    ensures count { IfOk result (λ count. count ≤ length out.new) }
+    ensures places { IfOk result (λ count. take count out.new
+        ≡ passing (λ at. all_let at rows.entry.row_filters.now) block.from block.length) }
 {
-    if row_filters.is_empty() {
-        return push_all(block, places);
+    if rows.row_filters.is_empty() {
+        put_all(block.from as u32, out);
+        return Ok(block.length);
     }
-    let marks = mark_block(alloc, row_filters, count, block, own)?;
-    push_marked(block, &marks, places)
+    let marks = mark_block(alloc, rows.row_filters, rows.segment.count, block)?;
+    Ok(put_marked(block.from as u32, &marks, out))
 }
 
 // A mark for each row of a block, whether all conditions let it through.
@@ -47,7 +47,6 @@ fn mark_block(
     row_filters: &[RowFilter<'_>],
     count: usize,
     block: Block,
-    own: &mut Vec<u32>,
 ) -> Result<Vec<bool>, NoMemory>
     requires covers { AllCover count row_filters.now }
     requires within { block.from + block.length ≤ count }
@@ -56,7 +55,7 @@ fn mark_block(
         → get_or marks.items at false ≡ all_let (block.from + at) row_filters.now) }
 {
     let mut marks = vec![in alloc; true; block.length]?;
-    keep_all(alloc, &mut marks, count, block.from, row_filters, own)?;
+    keep_all(alloc, &mut marks, count, block.from, row_filters)?;
     Ok(marks)
 }
 
@@ -67,27 +66,14 @@ fn keep_all(
     count: usize,
     from: usize,
     row_filters: &[RowFilter<'_>],
-    own: &mut Vec<u32>,
 ) -> Result<(), NoMemory>
     requires covers { AllCover count row_filters.now }
     requires within { from + length marks.old ≤ count }
     ensures { OnOk result (Keeps (λ at. all_let (from + at) row_filters.now) marks.old marks.new) }
 {
     for at in 0..row_filters.len() {
-        keep(alloc, marks, count, from, &row_filters[at], own)?;
+        keep(alloc, marks, count, from, &row_filters[at])?;
     }
-    Ok(())
-}
-
-// Adds the places of the rows of a block.
-fn push_all(block: Block, places: &mut Vec<u32>) -> Result<(), NoMemory>
-    requires { block.from + block.length ≤ most_rows }
-    ensures { OnOk result (places.new.items
-        ≡ places.old.items ++ passing (λ at. true) block.from block.length) }
-{
-    let start = places.len();
-    places.resize(start + block.length, 0)?;
-    put_all(block.from as u32, &mut places[start..]);
     Ok(())
 }
 
@@ -109,7 +95,6 @@ fn keep(
     count: usize,
     from: usize,
     row_filter: &RowFilter<'_>,
-    own: &mut Vec<u32>,
 ) -> Result<(), NoMemory>
     requires covers { covers count row_filter.now ≡ true }
     requires within { from + length marks.old ≤ count }
@@ -119,13 +104,10 @@ fn keep(
         return Ok(());
     }
     match row_filter {
-        RowFilter::Ids(ids, matching) => {
-            ids.between(from, marks.len(), own)?;
-            keep_ids(marks, own.as_slice(), matching);
-        }
+        RowFilter::Ids(ids, matching) => keep_ids(marks, ids.between(from, marks.len()), matching),
         RowFilter::Fixed(holds) => keep_if(marks, *holds),
         RowFilter::All(_) | RowFilter::Any(_) => {
-            let others = marks_of(alloc, count, from, marks.len(), row_filter, own)?;
+            let others = marks_of(alloc, count, from, marks.len(), row_filter)?;
             keep_marked(marks, &others);
         }
     }

@@ -35,10 +35,8 @@ pub returns-in_ok-marks-in-Ids-clause-each : goal.returns-in_ok-marks-in-Ids-cla
 unfolding Rattle.coded_scan.specs.declared.row_filter.RowFilter.TheViews.roll-RowFilter denote.Hole.Carrier.roll
 returns-in_ok-marks-in-Ids-clause-each t c = λ at lt.
     let from : ℕ = c.args.from in
-    let same : c.as_slice.result.now ≡ c.between.new.own.items = c.as_slice.ensures.value in
-    let within : at < length c.as_slice.result.now = omega (arith, lt, ap length same, c.in_ok-between-in-Ids.ensures.count) in
-    c.in_ok-marks-in-Ids.ensures.each at within
-    ∙ ap (has_id c.in-Ids.matching) (ap (λ (l : List ℕ). get_or l at 0) same ∙ c.in_ok-between-in-Ids.ensures.each at lt)
+    c.in_ok-marks-in-Ids.ensures.each at lt
+    ∙ ap (has_id c.in-Ids.matching) (c.between.ensures.each at lt)
     ∙ sym (ap (lets (from + at)) c.in-Ids.is ∙ fold-roll-RowFilter Bool (lets_step (from + at)) (RowFilter-F.Ids c.in-Ids.ids c.in-Ids.matching))
 
 pub returns-in_ok-marks-in-Fixed-clause-each : goal.returns-in_ok-marks-in-Fixed-clause-each

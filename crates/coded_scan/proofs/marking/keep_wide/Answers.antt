@@ -1,6 +1,6 @@
 use Rattle.std.proofs.Common.{◌<◌, ℕ, Bool, get_or, length, nat_eq, arith}
 use Rattle.scan_engine.proofs.SelectionLemmas.{keeps-all, keeps-none, keeps-set}
-use Rattle.coded_scan.proofs.marking.keep_only.Goals as goal
+use Rattle.coded_scan.proofs.marking.keep_wide.Goals as goal
 
 pub loop-at-init : goal.loop-at-init
 loop-at-init c = keeps-none _ _

@@ -1,7 +1,7 @@
 use Rattle.std.proofs.Common.{◌≤◌, ◌+◌, ◌-◌, ◌*◌, ◌/◌}
 use Rattle.coded_columns.specs.Keyed.{HoldsPacked}
 use Rattle.coded_scan.specs.RowFilters.{all_let, passing}
-use Rattle.coded_scan.proofs.keyed_scan.keyed_by_ids.Given as goal
+use Rattle.coded_scan.proofs.keyed_scan.add_blocks.Given as goal
 
 abbrev pub invariant-loop : goal.invariant-loop
 invariant-loop l = record {
