@@ -1,7 +1,9 @@
 -- What is read of a file, a part after the other (inside the crate alone).
-use Rattle.std.specs.Prelude.{◌≡◌, ◌<◌, ◌⊎◌, ℕ, pos, List, [], length, get_or, slice_get, Option, Some, IfSome, false}
+use Rattle.std.specs.Prelude.{◌≡◌, ◌<◌, ◌⊎◌, ℕ, pos, List, [], length, take, get_or, slice_get, Option, Some, IfSome, false, Result, IfErr, IfOk, IsErrOf, OnOk}
 use Rattle.std.specs.List.{All}
 use Rattle.outside.specs.Files.{Files}
+use Rattle.outside.specs.Seen as outside
+use Rattle.outside.specs.Seen.{OnlyReads}
 use Rattle.values.specs.Columns.{Counts, Listed, ListedColumns, rows_of}
 use Rattle.values.specs.declared.value.Value.{Value}
 use Rattle.value_ids.specs.Coding.{AreBelow, values_at}
@@ -11,13 +13,15 @@ use Rattle.bit_column.specs.Sections.{Readable}
 use Rattle.table_schema.specs.declared.table.Table.{Table}
 use Rattle.table_schema.specs.ValidTable.{AreRows, IsValidTable}
 use Rattle.segment_file.specs.Columns.{kind_at}
+use Rattle.segment_file.specs.declared.fault.HeadFault.{HeadFault}
+use Rattle.segment_file.specs.declared.fault.HeadFault.TheVariants.{NotASegment, ReadFault}
 use Rattle.segment_file.specs.declared.part.Part.{Part}
 use Rattle.segment_file.specs.declared.part.Part.TheVariants as parts
 use Rattle.segment_file.specs.Front.{Front, extents_of}
 use Rattle.segment_file.specs.Image.{image}
-use Rattle.segment_file.specs.Names.{IsSegmentName}
+use Rattle.segment_file.specs.Names.{IsSegmentName, IsSegmentOf}
 use Rattle.segment_file.specs.Parts.{sections_of}
-use Rattle.segment_file.specs.Rules.{HasFront}
+use Rattle.segment_file.specs.Rules.{FailsAt, HasFront}
 use Rattle.segment_head.specs.Heads.{IsHead, Seen, bytes_in, place_in}
 use Rattle.segment_build.specs.Compared.{DifferAt}
 use Rattle.segment_build.specs.Growing.{IsTooLarge, TreesFit}
@@ -98,3 +102,44 @@ IsUnlike table name file held front rows p =
     ⊎ (TreesFit table rows × OfBytes held file (λ bytes. (at : ℕ)
     × DifferAt (image 1 table name rows) bytes at
     × (p ≡ part_at (extents_of table name front) at)))
+
+-- ---- what the calls promise
+
+-- the head of a file was read, or the part of the first rule that fails
+pub record ReadsFileHead (table : Table) (name file : List ℕ) (old new : outside.Seen)
+    (result : Result FileHead HeadFault) : Type 0 where
+  pub some : IfOk result (IsSomeHead table name)
+  pub told : IfOk result (λ read. OfBytes old.held file (λ bytes.
+      IsFileHead table name file bytes read))
+  pub refused : IfErr result (λ fault. (p : Part) → fault ≡ NotASegment p
+      → OfBytes old.held file (λ bytes. FailsAt table name bytes p))
+  pub only_reads : OnlyReads (IsErrOf result ReadFault) old new
+
+-- the columns of a file with this head were read, or the first that has not its ids
+pub record ReadsColumns (table : Table) (head : Seen) (old new : outside.Seen)
+    (result : Result ListedColumns HeadFault) : Type 0 where
+  pub fields : IfOk result (AreOfFields table)
+  pub count : IfOk result (λ t. t.count ≡ head.rows)
+  pub columns : IfOk result (λ t.
+      AreColumns old.held head (length table.schema.fields) t.columns)
+  pub refused : IfErr result (λ fault. (p : Part) → fault ≡ NotASegment p
+      → (column : ℕ) × (p ≡ parts.Forward column) × FailsColumn table old.held head column)
+  pub only_reads : OnlyReads (IsErrOf result ReadFault) old new
+
+-- a file with this front was compared with the image of rows, whose bytes it has from the first on
+pub record ComparesImage (table : Table) (name file : List ℕ) (front : Front)
+    (rows : List (List Value)) (old new : outside.Seen) (result : Result (Unit {0}) HeadFault)
+    : Type 0 where
+  pub fits : OnOk result (TreesFit table rows)
+  pub same : OnOk result (OfBytes old.held file (λ bytes.
+      take (length (image 1 table name rows)) bytes ≡ image 1 table name rows))
+  pub refused : IfErr result (λ fault. (p : Part) → fault ≡ NotASegment p
+      → IsUnlike table name file old.held front rows p)
+  pub only_reads : OnlyReads (IsErrOf result ReadFault) old new
+
+-- the front of a file of the table, and columns of rows of it
+pub record MayCompare (table : Table) (name : List ℕ) (head : FileHead) (t : ListedColumns)
+    : Type 0 where
+  pub asked : IsSegmentOf table name
+  pub read : IsSomeHead table name head
+  pub fields : AreOfFields table t

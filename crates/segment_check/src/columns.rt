@@ -8,7 +8,7 @@ ghost use Rattle.segment_file.specs.declared.fault.HeadFault.TheVariants.{NotASe
 ghost use Rattle.segment_file.specs.declared.part.Part.{Part};
 ghost use Rattle.segment_file.specs.declared.part.Part.TheVariants as part;
 ghost use Rattle.segment_head.specs.Heads.{IsLoaded, place_in};
-ghost use Rattle.segment_check.specs.Reading.{AreColumns, AreOfFields, FailsColumn, HasIdsOf, IsColumn, IsSomeHead};
+ghost use Rattle.segment_check.specs.Reading.{HasIdsOf, IsColumn, IsSomeHead, ReadsColumns};
 
 use crate::head::FileHead;
 use bit_column::{ColumnFault, read_range, width_for};
@@ -31,15 +31,8 @@ pub(crate) fn read_columns<S: Shelf>(
     read: &FileHead,
 ) -> Result<Columns, HeadFault>
     requires { IsSomeHead table.now name.now read.now }
-    ensures fields { IfOk result (AreOfFields table.now) }
-    ensures count { IfOk result (λ t. t.count ≡ read.now.head.rows) }
-    ensures columns { IfOk result (λ t. AreColumns (S.held shelf.old) read.now.head
-        (length table.now.schema.fields) t.columns) }
-    ensures refused { IfErr result (λ fault. (p : Part) → fault ≡ NotASegment p →
-        (column : ℕ) × (p ≡ part.Forward column)
-        × FailsColumn table.now (S.held shelf.old) read.now.head column) }
-    ensures only_reads { OnlyReads (IsErrOf result HeadFault.ReadFault)
-        (seen S.Shelf shelf.old) (seen S.Shelf shelf.new) }
+    ensures { ReadsColumns table.now read.now.head
+        (seen S.Shelf shelf.old) (seen S.Shelf shelf.new) result }
 {
     let fields = table.schema.fields.as_slice();
     let mut columns = Vec::with_capacity(alloc, fields.len())?;

@@ -1,18 +1,15 @@
 //! A file is compared with the image of rows.
-ghost use Rattle.std.specs.Prelude.{◌≡◌, ◌<◌, ◌+◌, ◌^◌, IfErr, IfOk, IsErrOf, MatchOption, OnOk, length, sum, take};
+ghost use Rattle.std.specs.Prelude.{◌≡◌, ◌<◌, ◌+◌, ◌^◌, IfErr, IfOk, IsErrOf, MatchOption, length, sum, take};
 ghost use Rattle.outside.specs.Seen.{OnlyReads, seen};
 ghost use Rattle.values.specs.Columns.{rows_of};
 ghost use Rattle.segment_file.specs.declared.fault.HeadFault.TheVariants.{NotASegment};
 ghost use Rattle.segment_file.specs.declared.part.Part.{Part};
 ghost use Rattle.segment_file.specs.Front.{extents_from};
-ghost use Rattle.segment_file.specs.Image.{image};
-ghost use Rattle.segment_file.specs.Names.{IsSegmentOf};
 ghost use Rattle.segment_build.specs.Compared.{DifferAt};
-ghost use Rattle.segment_build.specs.Growing.{TreesFit};
 ghost use Rattle.segment_build.specs.Made.{file_bytes};
 ghost use Rattle.segment_check.specs.Calls.{OfBytes};
 ghost use Rattle.segment_check.specs.Checked as spec;
-ghost use Rattle.segment_check.specs.Reading.{AreOfFields, IsSomeHead, IsUnlike};
+ghost use Rattle.segment_check.specs.Reading.{ComparesImage, MayCompare};
 
 use crate::head::FileHead;
 use outside::Shelf;
@@ -33,18 +30,9 @@ pub(crate) fn compare<S: Shelf>(
     read: &FileHead,
     columns: &Columns,
 ) -> Result<(), HeadFault>
-    requires asked { IsSegmentOf table.now name.now }
-    requires read { IsSomeHead table.now name.now read.now }
-    requires fields { AreOfFields table.now columns.now }
-    ensures fits { OnOk result (TreesFit table.now (rows_of columns.now)) }
-    ensures same { OnOk result (OfBytes (S.held shelf.old) file.now (λ bytes.
-        take (length (image 1 table.now name.now (rows_of columns.now))) bytes
-        ≡ image 1 table.now name.now (rows_of columns.now))) }
-    ensures refused { IfErr result (λ fault. (p : Part) → fault ≡ NotASegment p →
-        IsUnlike table.now name.now file.now (S.held shelf.old) read.now.front
-        (rows_of columns.now) p) }
-    ensures only_reads { OnlyReads (IsErrOf result HeadFault.ReadFault)
-        (seen S.Shelf shelf.old) (seen S.Shelf shelf.new) }
+    requires { MayCompare table.now name.now read.now columns.now }
+    ensures { ComparesImage table.now name.now file.now read.now.front (rows_of columns.now)
+        (seen S.Shelf shelf.old) (seen S.Shelf shelf.new) result }
 {
     let made = match make_file(alloc, table, name, columns) {
         Ok(made) => made,

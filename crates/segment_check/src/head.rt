@@ -1,12 +1,7 @@
 //! The head of a file is read, with its front and the sections that it has.
-ghost use Rattle.std.specs.Prelude.{◌≡◌, IfErr, IfOk, IsErrOf};
-ghost use Rattle.outside.specs.Seen.{OnlyReads, seen};
-ghost use Rattle.segment_file.specs.declared.fault.HeadFault.TheVariants.{NotASegment};
-ghost use Rattle.segment_file.specs.declared.part.Part.{Part};
+ghost use Rattle.outside.specs.Seen.{seen};
 ghost use Rattle.segment_file.specs.Names.{IsSegmentOf};
-ghost use Rattle.segment_file.specs.Rules.{FailsAt};
-ghost use Rattle.segment_check.specs.Calls.{OfBytes};
-ghost use Rattle.segment_check.specs.Reading.{IsFileHead, IsSomeHead};
+ghost use Rattle.segment_check.specs.Reading.{ReadsFileHead};
 
 use outside::Shelf;
 use segment_file::{Front, HeadFault, Part, read_front, read_rest, sections_of};
@@ -33,13 +28,8 @@ pub(crate) fn read_file_head<S: Shelf>(
     table: &Table,
 ) -> Result<FileHead, HeadFault>
     requires { IsSegmentOf table.now name.now }
-    ensures some { IfOk result (IsSomeHead table.now name.now) }
-    ensures told { IfOk result (λ read. OfBytes (S.held shelf.old) file.now (λ bytes.
-        IsFileHead table.now name.now file.now bytes read)) }
-    ensures refused { IfErr result (λ fault. (p : Part) → fault ≡ NotASegment p →
-        OfBytes (S.held shelf.old) file.now (λ bytes. FailsAt table.now name.now bytes p)) }
-    ensures only_reads { OnlyReads (IsErrOf result HeadFault.ReadFault)
-        (seen S.Shelf shelf.old) (seen S.Shelf shelf.new) }
+    ensures { ReadsFileHead table.now name.now file.now
+        (seen S.Shelf shelf.old) (seen S.Shelf shelf.new) result }
 {
     let parts = sections_of(alloc, table)?;
     let read = match read_front(alloc, shelf, file, name, table, &parts) {

@@ -1,4 +1,7 @@
 use Rattle.std.proofs.Common.{◌≡◌, ◌≤◌, length, ap, arith, inl, refl}
+use Rattle.outside.specs.Seen.{Seen, seen}
+use Rattle.outside.proofs.SeenLemmas.{reads_none}
+use Rattle.segment_file.proofs.Faults.{reads_other}
 use Rattle.segment_file.specs.declared.part.Part.TheVariants as parts
 use Rattle.segment_file.proofs.Counts.{few_sections}
 use Rattle.segment_build.specs.Made.{file_bytes}
@@ -9,12 +12,19 @@ pub first_difference-requires : goal.first_difference-requires
 first_difference-requires g c =
     image_small c.args.table.now c.args.name.now c.args.columns.now (file_bytes c.in-Ok.made) c.requires.asked.valid c.requires.asked.name c.requires.fields c.in-Ok.ensures.built.fits c.in-Ok.ensures.image
 
-pub returns-in-Err-TooLarge-clause-refused : goal.returns-in-Err-TooLarge-clause-refused
-returns-in-Err-TooLarge-clause-refused g c = λ p is.
+pub returns-in-Err-TooLarge : goal.returns-in-Err-TooLarge
+returns-in-Err-TooLarge g c =
     let fails = c.in-Err-TooLarge in
+    let old : Seen = seen g.S.Shelf c.args.shelf.now in
     let own = rw fails.field-0-is at fails.ensures in
-    let named : p ≡ parts.Nodes fails.tree = cc (is, fails.tree-is) in
-    inl (fails.tree, named, own.built.too_large fails.tree refl)
+    record {
+      fits = tt;
+      same = tt;
+      refused = λ p is.
+          let named : p ≡ parts.Nodes fails.tree = cc (is, fails.tree-is) in
+          inl (fails.tree, named, own.built.too_large fails.tree refl);
+      only_reads = reads_other _ old old (λ e. cc) (reads_none old);
+    }
 
 pub front_size-start-requires-clause-sections : goal.front_size-start-requires-clause-sections
 front_size-start-requires-clause-sections g c =
