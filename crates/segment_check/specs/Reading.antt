@@ -115,6 +115,18 @@ pub record ReadsFileHead (table : Table) (name file : List ℕ) (old new : outsi
       → OfBytes old.held file (λ bytes. FailsAt table name bytes p))
   pub only_reads : OnlyReads (IsErrOf result ReadFault) old new
 
+-- the values of the rows in a column were read, or its forward index has no such ids
+pub record ReadsColumn (head : Seen) (column : ℕ) (old new : outside.Seen)
+    (result : Result Listed HeadFault) : Type 0 where
+  pub column_is : IfOk result (λ c. (d : Distinct)
+      → slice_get head.dictionaries column ≡ Some (Some d)
+      → IsColumn old.held head column d c.values)
+  pub refused : IfErr result (λ fault. (p : Part) → fault ≡ NotASegment p
+      → (p ≡ parts.Forward column) × ((d : Distinct)
+      → slice_get head.dictionaries column ≡ Some (Some d)
+      → IfSome old.held (λ files. ¬ HasIdsOf files head column (length d.values))))
+  pub only_reads : OnlyReads (IsErrOf result ReadFault) old new
+
 -- the columns of a file with this head were read, or the first that has not its ids
 pub record ReadsColumns (table : Table) (head : Seen) (old new : outside.Seen)
     (result : Result ListedColumns HeadFault) : Type 0 where

@@ -8,7 +8,7 @@ ghost use Rattle.segment_file.specs.declared.fault.HeadFault.TheVariants.{NotASe
 ghost use Rattle.segment_file.specs.declared.part.Part.{Part};
 ghost use Rattle.segment_file.specs.declared.part.Part.TheVariants as part;
 ghost use Rattle.segment_head.specs.Heads.{IsLoaded, place_in};
-ghost use Rattle.segment_check.specs.Reading.{HasIdsOf, IsColumn, IsSomeHead, ReadsColumns};
+ghost use Rattle.segment_check.specs.Reading.{IsSomeHead, ReadsColumn, ReadsColumns};
 
 use crate::head::FileHead;
 use bit_column::{ColumnFault, read_range, width_for};
@@ -64,16 +64,8 @@ fn read_column<S: Shelf>(
     requires placed { IsSome (place_in head.now.sections (part.Forward column)) }
     requires kind { (d : Distinct) → slice_get head.now.dictionaries column ≡ Some (Some d)
         → d.kind ≡ kind }
-    ensures column { IfOk result (λ c. (d : Distinct)
-        → slice_get head.now.dictionaries column ≡ Some (Some d)
-        → IsColumn (S.held shelf.old) head.now column d c.values) }
-    ensures refused { IfErr result (λ fault. (p : Part) → fault ≡ NotASegment p →
-        (p ≡ part.Forward column) × ((d : Distinct)
-        → slice_get head.now.dictionaries column ≡ Some (Some d)
-        → IfSome (S.held shelf.old) (λ files.
-        ¬ HasIdsOf files head.now column (length d.values)))) }
-    ensures only_reads { OnlyReads (IsErrOf result HeadFault.ReadFault)
-        (seen S.Shelf shelf.old) (seen S.Shelf shelf.new) }
+    ensures { ReadsColumn head.now column
+        (seen S.Shelf shelf.old) (seen S.Shelf shelf.new) result }
 {
     let Some(place) = head.place(Part::Forward(column)) else {
         unreachable!();

@@ -62,7 +62,7 @@ columns-preserved g c =
     record {
       columns = subst (AreColumns held head (c.columns.at + 1)) (sym c.in_ok-keep-in-Ok.ensures)
           (columns_more held head c.columns.at c.columns.columns.items c.in-Ok.column c.columns.invariant.columns
-          (λ d loaded. subst (λ h. IsColumn h head c.columns.at d c.in-Ok.column.values) c.columns.invariant.only_reads.held (c.in-Ok.ensures.column d loaded)));
+          (λ d loaded. subst (λ h. IsColumn h head c.columns.at d c.in-Ok.column.values) c.columns.invariant.only_reads.held (c.in-Ok.ensures.column_is d loaded)));
       only_reads = reads_after ⊥ old mid now c.columns.invariant.only_reads (reads_well c.in-Ok.column mid now c.in-Ok.ensures.only_reads);
     }
 
