@@ -4,7 +4,7 @@ use Rattle.outside.specs.Counts.{Rose}
 use Rattle.outside.specs.Files.{SameBut}
 use Rattle.outside.specs.Seen.{OnlyWrites, Seen}
 use Rattle.segment_build.specs.Publishing.{incoming}
-use Rattle.segment_build.proofs.FilesLemmas.{same_but}
+use Rattle.segment_build.specs.FileLaws.{same_but}
 use Rattle.table_store.specs.Calls.{OnlyPublishes, ReadsNoByte}
 
 -- a look alone: nothing was written
