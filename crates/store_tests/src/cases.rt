@@ -1,8 +1,11 @@
-//! Cases of heads: `cut FROM TO OUTCOME` is the file cut to each of these lengths, and `alter FROM
-//! TO OUTCOME` the file with each of these bytes one more than it is. `# ` begins a comment.
+//! Cases of heads or of whole files: `cut FROM TO OUTCOME` is the file cut to each of these lengths,
+//! and `alter FROM TO OUTCOME` the file with each of these bytes one more than it is. `# ` begins a
+//! comment.
 ghost use Rattle.table_schema.specs.ValidTable.{IsValidTable};
 
-use crate::heads::outcome;
+use crate::counting::CountingShelf;
+use crate::heads::opened;
+use crate::images::checked;
 use std::alloc::{AllocError, Global};
 use table_schema::Table;
 
@@ -11,6 +14,32 @@ use table_schema::Table;
 pub struct Report {
     pub count: u64,
     pub wrong: Vec<String>,
+}
+
+/// What is looked at of each file.
+#[derive(Clone, Copy)]
+pub enum Look {
+    Head,
+    File,
+}
+
+impl Look {
+    // What comes of a file.
+    fn outcome(
+        self,
+        alloc: Global,
+        bytes: Vec<u8>,
+        name: &str,
+        table: &Table,
+    ) -> Result<String, AllocError>
+        requires { IsValidTable table.now }
+    {
+        let mut shelf = CountingShelf::new(bytes);
+        match self {
+            Look::Head => opened(alloc, &mut shelf, name, table),
+            Look::File => checked(alloc, &mut shelf, name, table),
+        }
+    }
 }
 
 // What is done to the file at each place from one to another, and what has to come of it.
@@ -59,6 +88,7 @@ impl Report {
     fn add(
         &mut self,
         alloc: Global,
+        look: Look,
         table: &Table,
         name: &str,
         file: &[u8],
@@ -68,7 +98,7 @@ impl Report {
     {
         for at in case.from..case.to.saturating_add(1) {
             let bytes = changed(alloc, file, case.cuts, at)?;
-            let found = outcome(alloc, bytes, name, table)?;
+            let found = look.outcome(alloc, bytes, name, table)?;
             self.count = self.count.saturating_add(1);
             if found.as_str() != case.expected {
                 let kind = if case.cuts { "cut" } else { "alter" };
@@ -83,6 +113,7 @@ impl Report {
 /// Runs the cases of a file over the file of a segment.
 pub fn run_cases(
     alloc: Global,
+    look: Look,
     table: &Table,
     name: &str,
     file: &[u8],
@@ -96,7 +127,7 @@ pub fn run_cases(
     };
     for line in cases.lines() {
         if let Some(case) = case_of(line) {
-            report.add(alloc, table, name, file, &case)?;
+            report.add(alloc, look, table, name, file, &case)?;
         }
     }
     Ok(report)

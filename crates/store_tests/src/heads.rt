@@ -8,9 +8,9 @@ use std::alloc::{AllocError, Global};
 use table_schema::Table;
 
 /// The number of rows of a file's head, or the part of it that is wrong.
-pub fn outcome(
+pub fn opened(
     alloc: Global,
-    bytes: Vec<u8>,
+    shelf: &mut CountingShelf,
     name: &str,
     table: &Table,
 ) -> Result<String, AllocError>
@@ -19,8 +19,7 @@ pub fn outcome(
     if !is_segment_name(name) {
         return String::from_str(alloc, "not tried");
     }
-    let mut shelf = CountingShelf::new(bytes);
-    match read_head(alloc, &mut shelf, name, name, table) {
+    match read_head(alloc, shelf, name, name, table) {
         Ok(head) => format!(in alloc; "{} rows", head.rows()),
         Err(HeadFault::NotASegment(part)) => format!(in alloc; "{part:?}"),
         Err(fault) => format!(in alloc; "{fault:?}"),

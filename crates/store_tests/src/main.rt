@@ -1,6 +1,6 @@
 //! Runs cases over the files of two small segments, which another program wrote: whether the same
-//! file is made of the rows, by each call that makes it, what its head costs, and what comes of it
-//! where it is cut or a byte of it is another one.
+//! file is made of the rows, by each call that makes it, what its head and its check cost, and what
+//! comes of each where the file is cut or a byte of it is another one.
 #![tactic(auto)]
 
 ghost use Rattle.std.specs.Prelude.{IfSome};
@@ -11,9 +11,10 @@ mod built;
 mod cases;
 mod counting;
 mod heads;
+mod images;
 mod noting;
 
-use cases::run_cases;
+use cases::{Look, run_cases};
 use counting::CountingShelf;
 use host_devices::FolderDepot;
 use schema_json::read_schema;
@@ -23,26 +24,53 @@ use std::{fs, io};
 use table_schema::Table;
 use table_store::open_table;
 
-// Runs everything over the file `NAME.seg` of the segment of a table, with the rows of `NAME.csv`
-// and the cases of `NAME.txt`.
+// Runs the cases of a text over a file, and prints how many there are and which are wrong.
+fn run_text(
+    rt: &HostRuntime,
+    look: Look,
+    table: &Table,
+    name: &str,
+    file: &[u8],
+    cases: &str,
+) -> io::Result<()>
+    requires { IsValidTable table.now }
+{
+    let report = run_cases(rt.alloc(), look, table, name, file, cases)?;
+    println!(rt; "{} cases", report.count)?;
+    for line in &report.wrong {
+        println!(rt; "wrong: {line}")?;
+    }
+    Ok(())
+}
+
+// Runs everything over the file `NAME.seg` of the segment of a table, with the rows of `NAME.csv`,
+// the cases of its head in `NAME.txt`, and those of the whole file in `NAME.image.txt`.
 fn run(rt: &HostRuntime, table: &Table, name: &str) -> io::Result<()>
     requires { IsValidTable table.now }
 {
     let alloc = rt.alloc();
     let file = fs::read(rt, format!(in alloc; "{name}.seg")?.as_str())?;
     let rows = fs::read(rt, format!(in alloc; "{name}.csv")?.as_str())?;
-    let cases = fs::read_to_string(rt, format!(in alloc; "{name}.txt")?.as_str())?;
+    let heads = fs::read_to_string(rt, format!(in alloc; "{name}.txt")?.as_str())?;
+    let images = fs::read_to_string(rt, format!(in alloc; "{name}.image.txt")?.as_str())?;
     let built = built::compared(alloc, table, name, rows.as_slice(), file.as_slice())?;
     println!(rt; "built: {built}")?;
     let mut shelf = CountingShelf::new(file.clone()?);
     let costs = heads::costs(alloc, &mut shelf, name, table)?;
     println!(rt; "read: {costs}")?;
-    let report = run_cases(alloc, table, name, file.as_slice(), cases.as_str())?;
-    println!(rt; "heads: {} cases", report.count)?;
-    for line in &report.wrong {
-        println!(rt; "wrong: {line}")?;
-    }
-    Ok(())
+    print!(rt; "heads: ")?;
+    run_text(rt, Look::Head, table, name, file.as_slice(), heads.as_str())?;
+    let cost = images::cost(alloc, file.as_slice(), name, table)?;
+    println!(rt; "checked: {cost}")?;
+    print!(rt; "files: ")?;
+    run_text(
+        rt,
+        Look::File,
+        table,
+        name,
+        file.as_slice(),
+        images.as_str(),
+    )
 }
 
 // The segment of a table that is stored in the folder.
