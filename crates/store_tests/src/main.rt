@@ -13,10 +13,12 @@ mod counting;
 mod heads;
 mod images;
 mod noting;
+mod others;
 
 use cases::{Look, run_cases};
 use counting::CountingShelf;
 use host_devices::FolderDepot;
+use others::run_others;
 use schema_json::read_schema;
 use settings_json::read_settings;
 use std::alloc::Global;
@@ -120,5 +122,6 @@ fn run_generated(rt: &HostRuntime) -> io::Result<()> {
 fn main(rt: HostRuntime) -> io::Result<()> {
     run_stored(&rt)?;
     run_with_tree(&rt)?;
+    run_others(&rt)?;
     run_generated(&rt)
 }
