@@ -1,0 +1,4 @@
+pub mod SlotLemmas
+pub mod CellLemmas
+pub mod OwnerLemmas
+pub mod PoolSteps

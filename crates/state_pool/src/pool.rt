@@ -1,0 +1,196 @@
+//! Pools of slots.
+
+ghost use Rattle.std.specs.Prelude.{◌≡◌, ℕ, ◌+◌, ◌*◌, ◌<◌, ◌≤◌, ◌^◌, ◌↔◌, ◌++◌, [], length, map, sum};
+ghost use Rattle.std.specs.Prelude.{slice_get, slice_set, Some, None, IfOk, IfSome, vec_capacity};
+ghost use Rattle.std.specs.Borrow.{sem};
+ghost use Rattle.state_pool.specs.Pool.{IsNew, IsOut, Takes, GivesBack, Writes};
+ghost use Rattle.state_pool.specs.Pool.{quota_of, kinds_at, held, states_at, with_state};
+ghost use Rattle.state_pool.specs.Kept.{AreFree, HasRoom, Seats, TakesNumber};
+ghost use Rattle.state_pool.specs.Lent.{LendsState};
+
+use crate::slot::Slot;
+use crate::units::{add_spare, add_units, write_units};
+use agg_laws::{AggKind, AggState, Kinds, NoMemory};
+use data_types::Seq;
+use state_columns::put_all;
+use std::alloc::Global;
+use std::marker::Model;
+
+// How many slots an owner may hold, how many it holds, and the kinds of its states.
+#[derive(Drop)]
+struct Owner {
+    quota: u32,
+    held: u32,
+    kinds: Kinds,
+}
+
+/// Slots, each a row of states. Owners take them and give them back, each within its quota. All
+/// memory is taken when the pool is made.
+#[derive(Drop)]
+pub struct SlotPool {
+    owners: Vec<Owner>,
+    holders: Vec<Option<u16>>,
+    width: usize,
+    cells: Vec<AggState>,
+    free: Vec<u32>,
+}
+
+impl Model for SlotPool {
+    ghost use Rattle.std.specs.Prelude.{vec_capacity};
+    ghost use Rattle.state_pool.specs.Pool.{Pool};
+    ghost use Rattle.state_pool.specs.Kept.{IsKept, HasRoom, pool_in, most_of};
+
+    ghost Value = { Pool };
+
+    ghost view = { λ p. pool_in p.owners.items p.holders.items p.width p.cells.items };
+
+    ghost invariant = { λ p.
+        IsKept p.owners.items (pool_in p.owners.items p.holders.items p.width p.cells.items)
+        p.free.items × HasRoom (most_of p.owners.items) p.width (vec_capacity p.holders)
+        (vec_capacity p.cells) (vec_capacity p.free) };
+}
+
+impl SlotPool {
+    /// A pool for as many owners as there are quotas. Each may hold so many slots, of states of
+    /// these kinds.
+    pub fn with_slots(alloc: Global, kinds: &Kinds, quotas: &Seq<u32>) -> Result<SlotPool, NoMemory>
+        requires kinds { length kinds.now ≤ 2 ^ 16 }
+        requires quotas { sum quotas.now < 2 ^ 32 }
+        ensures { IfOk result (IsNew kinds.now quotas.now) }
+    {
+        let slots = total(quotas.as_slice());
+        Ok(SlotPool {
+            owners: owners_of(alloc, kinds, quotas.as_slice())?,
+            holders: Vec::with_capacity(alloc, slots)?,
+            width: kinds.len(),
+            cells: Vec::with_capacity(alloc, slots * kinds.len())?,
+            free: Vec::with_capacity(alloc, slots)?,
+        })
+    }
+
+    /// How many slots an owner may still take.
+    pub fn free(&self, owner: u16) -> u32
+        requires { owner < length self.now.quotas }
+        ensures { result + held self.now owner ≡ quota_of self.now owner }
+    {
+        let own = &self.owners[owner as usize];
+        own.quota - own.held
+    }
+
+    /// A slot of the states of no value, unless the owner holds as many as it may.
+    pub fn take(&mut self, owner: u16) -> Option<Slot>
+        requires { owner < length self.old.quotas }
+        ensures full { result ≡ None ↔ (held self.old owner ≡ quota_of self.old owner) }
+        ensures kept { result ≡ None → self.new ≡ self.old }
+        ensures taken { IfSome result (λ slot. Takes owner slot self.old self.new) }
+    {
+        let own = &mut self.owners[owner as usize];
+        if own.held == own.quota {
+            return None;
+        }
+        own.held += 1;
+        let number = seat(
+            &mut self.holders,
+            &mut self.cells,
+            &mut self.free,
+            self.width,
+            owner,
+            own.kinds.as_slice(),
+        );
+        Some(Slot { owner, number })
+    }
+
+    /// Takes a slot back from its owner.
+    pub fn give_back(&mut self, slot: Slot)
+        requires { IsOut self.old slot }
+        ensures { GivesBack slot self.old self.new }
+    {
+        self.owners[slot.owner as usize].held -= 1;
+        self.holders[slot.number as usize] = None;
+        put_all(&mut self.free, &[slot.number]);
+    }
+
+    /// The state in a place of a slot.
+    pub fn state(&self, slot: &Slot, at: u16) -> &AggState
+        requires out { IsOut self.now slot.now }
+        requires at { at < length (kinds_at self.now slot.now.owner) }
+        ensures { slice_get (states_at self.now slot.now) at ≡ Some result.now }
+    {
+        &self.cells[slot.number as usize * self.width + at as usize]
+    }
+
+    /// The state in a place of a slot, to be changed. No other slot changes.
+    pub fn state_mut(&mut self, slot: &Slot, at: u16) -> &mut AggState
+        requires out { IsOut self.old slot.now }
+        requires at { at < length (kinds_at self.old slot.now.owner) }
+        ensures* writes_back { sem 𝓛 (LendsState self.entry slot.now at result) }
+        ensures value { slice_get (states_at self.old slot.now) at ≡ Some result.now }
+        ensures writes { (state : AggState) → Writes slot.now
+            (slice_set (states_at self.old slot.now) at state) self.old
+            (with_state self.old slot.now at state) }
+    {
+        &mut self.cells[slot.number as usize * self.width + at as usize]
+    }
+}
+
+/// Owners of these quotas, each with the same kinds.
+fn owners_of(alloc: Global, kinds: &Kinds, quotas: &[u32]) -> Result<Vec<Owner>, NoMemory>
+    ensures { IfOk result (λ owners. owners.items
+        ≡ map (λ quota. record { quota = quota; held = 0; kinds = kinds.now }) quotas.now) }
+{
+    let mut owners = Vec::with_capacity(alloc, quotas.len())?;
+    for quota in quotas {
+        owners.push(Owner {
+            quota: *quota,
+            held: 0,
+            kinds: kinds.copy(alloc)?,
+        })?;
+    }
+    Ok(owners)
+}
+
+/// The sum of quotas.
+fn total(quotas: &[u32]) -> usize
+    requires { sum quotas.now < 2 ^ 32 }
+    ensures { result ≡ sum quotas.now }
+{
+    let mut slots: usize = 0;
+    for quota in quotas {
+        slots += *quota as usize;
+    }
+    slots
+}
+
+/// A number for a slot of an owner, with the states of no value: one that is free, or a new one.
+fn seat(
+    holders: &mut Vec<Option<u16>>,
+    cells: &mut Vec<AggState>,
+    free: &mut Vec<u32>,
+    width: usize,
+    owner: u16,
+    kinds: &[AggKind],
+) -> u32
+    requires kinds { length kinds.now ≤ width }
+    requires cells { length cells.old.items ≡ length holders.old.items * width }
+    requires free { AreFree holders.old.items free.old.items }
+    requires room { free.old.items ≡ [] → HasRoom (length holders.old.items + 1) width
+        (vec_capacity holders.old) (vec_capacity cells.old) (vec_capacity free.old) }
+    ensures seats { Seats owner width kinds.now result holders.old.items holders.new.items
+        cells.old.items cells.new.items }
+    ensures numbers { TakesNumber holders.old.items holders.new.items free.old.items
+        free.new.items }
+    ensures room { (slots : ℕ) → HasRoom slots width (vec_capacity holders.old)
+        (vec_capacity cells.old) (vec_capacity free.old) → HasRoom slots width
+        (vec_capacity holders.new) (vec_capacity cells.new) (vec_capacity free.new) }
+{
+    if let Some(number) = free.pop() {
+        holders[number as usize] = Some(owner);
+        write_units(cells, number as usize * width, kinds);
+        return number;
+    }
+    let number = holders.len() as u32;
+    put_all(holders, &[Some(owner)]);
+    add_units(cells, kinds);
+    add_spare(cells, width - kinds.len());
+    number
+}
