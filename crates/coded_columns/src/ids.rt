@@ -99,6 +99,17 @@ impl IdSlices<'_> {
             IdSlices::Wide(ids) => ids[row],
         }
     }
+
+    /// How many there are.
+    #[inline(always)]
+    pub fn count(self) -> usize
+        ensures { result ≡ length (seen_ids self.entry) }
+    {
+        match self {
+            IdSlices::Narrow(ids) => ids.len(),
+            IdSlices::Wide(ids) => ids.len(),
+        }
+    }
 }
 
 /// Room for the ids of a column, which are added block by block.

@@ -3,3 +3,7 @@ pub mod RowFilterLemmas
 pub mod AddSteps
 pub mod PlaceSteps
 pub mod KeyedMerges
+pub mod Lanes
+pub mod MarkSteps
+pub mod Ones
+pub mod RunLemmas

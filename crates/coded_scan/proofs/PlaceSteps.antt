@@ -1,4 +1,4 @@
--- The places of marked rows, one stretch of rows after another.
+-- The places of marked rows, one block after another.
 use Rattle.std.proofs.Common.{◌≡◌, ◌∙◌, ◌<◌, ◌≤◌, ◌+◌, ◌-◌, ◌++◌, ◌∷◌, [], ◌||◌, ℕ, zero, suc, Bool, true, false, cond, List, length, take, drop, set, refl, ap, sym, arith, append-nil, append_assoc}
 use Rattle.std.proofs.Math.Seq.{take-add}
 use Rattle.std.proofs.lemmas.List.{take-set-le, take_more_set, take_all, take_at, drop_at, take-take, take-append-le}
@@ -12,28 +12,6 @@ passing-none holds from (suc n) none =
     let front = passing-none holds from n (λ at lt. none at (omega (arith, lt))) in
     let last = none n (omega arith) in
     λ i. front i ++ cond (last i) ((from + n) ∷ []) []
-
--- a stretch of which it holds nowhere adds no place
-pub passing-skip : (holds : ℕ → Bool) (from start end : ℕ) → start ≤ end → ((at : ℕ) → at < end - start → holds (from + (start + at)) ≡ false) → passing holds from start ≡ passing holds from end
-passing-skip holds from start end le none =
-    let all : start + (end - start) ≡ end = omega (arith, le) in
-    let own : passing holds (from + start) (end - start) ≡ [] =
-    passing-none holds (from + start) (end - start) (λ at lt. (let e : (from + start) + at ≡ from + (start + at) = omega arith in ap holds e) ∙ none at lt) in
-    sym (append-nil (passing holds from start))
-    ∙ ap (λ l. passing holds from start ++ l) (sym own)
-    ∙ sym (passing-both holds from start (end - start))
-    ∙ ap (passing holds from) all
-
--- a place that is written after others, and counted where it is marked
-pub put-one : (mark : Bool) (out front : List ℕ) (n place : ℕ) → n < length out → take n out ≡ front → take (n + cond mark 1 0) (set out n place) ≡ front ++ cond mark (place ∷ []) []
-put-one true out front n place lt is = take_more_set out n place lt ∙ ap (λ l. l ++ place ∷ []) is
-put-one false out front n place lt is =
-    let none : n + 0 ≡ n = omega arith in
-    ap (λ k. take k (set out n place)) none ∙ take-set-le n out n place (omega arith) ∙ is ∙ sym (append-nil front)
-
-pub either_none : (a b : Bool) → (a || b) ≡ false → (a ≡ false) × (b ≡ false)
-either_none true b e = absurd cc
-either_none false b e = (refl, e)
 
 -- what is left of a list to whose end others were put, of which some are kept
 pub kept : (old long out post rest : List ℕ) (start count size : ℕ) → take start long ≡ old → length old ≡ start → count ≤ length out → start + count ≤ size

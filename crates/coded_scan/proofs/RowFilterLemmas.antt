@@ -8,7 +8,7 @@ and_true : (x : Bool) → (x && true) ≡ x
 and_true true = refl
 and_true false = refl
 
-and_assoc : (x y z : Bool) → (x && (y && z)) ≡ ((x && y) && z)
+pub and_assoc : (x y z : Bool) → (x && (y && z)) ≡ ((x && y) && z)
 and_assoc true y z = refl
 and_assoc false y z = refl
 
@@ -42,7 +42,7 @@ or_false : (x : Bool) → (x || false) ≡ x
 or_false true = refl
 or_false false = refl
 
-or_assoc : (x y z : Bool) → (x || (y || z)) ≡ ((x || y) || z)
+pub or_assoc : (x y z : Bool) → (x || (y || z)) ≡ ((x || y) || z)
 or_assoc true y z = refl
 or_assoc false y z = refl
 
@@ -55,11 +55,11 @@ any_true_push p [] x = or_false (p x)
 any_true_push p (y ∷ ys) x = ap (λ b. p y || b) (any_true_push p ys x) ∙ or_assoc (p y) (any_true (map p ys)) (p x)
 
 -- what holds of all of some holds of each
-both_first : (a b : Bool) → (a && b) ≡ true → a ≡ true
+pub both_first : (a b : Bool) → (a && b) ≡ true → a ≡ true
 both_first true b is = refl
 both_first false b is = is
 
-both_second : (a b : Bool) → (a && b) ≡ true → b ≡ true
+pub both_second : (a b : Bool) → (a && b) ≡ true → b ≡ true
 both_second true b is = is
 both_second false b is = absurd cc
 
@@ -72,14 +72,14 @@ pub both_true : (a b : Bool) → a ≡ true → b ≡ true → (a && b) ≡ true
 both_true a b e f = ap (λ x. x && b) e ∙ f
 
 -- one member more
-all_first : {X : Type 0} (p : X → Bool) (xs : List X) (i : ℕ) (x : X) → i < length xs → x ≡ get_or xs i x → all_true (map p (drop i xs)) ≡ (p x && all_true (map p (drop (i + 1) xs)))
+pub all_first : {X : Type 0} (p : X → Bool) (xs : List X) (i : ℕ) (x : X) → i < length xs → x ≡ get_or xs i x → all_true (map p (drop i xs)) ≡ (p x && all_true (map p (drop (i + 1) xs)))
 all_first p [] i x lt is = absurd (omega (arith, lt))
 all_first p (y ∷ ys) zero x lt is = ap (λ z. p z && all_true (map p ys)) (sym is)
 all_first p (y ∷ ys) (suc i) x lt is =
     let e : suc i + 1 ≡ suc (i + 1) = omega arith in
     all_first p ys i x (omega (arith, lt)) is ∙ ap (λ n. p x && all_true (map p (drop n (y ∷ ys)))) (sym e)
 
-any_first : {X : Type 0} (p : X → Bool) (xs : List X) (i : ℕ) (x : X) → i < length xs → x ≡ get_or xs i x → any_true (map p (drop i xs)) ≡ (p x || any_true (map p (drop (i + 1) xs)))
+pub any_first : {X : Type 0} (p : X → Bool) (xs : List X) (i : ℕ) (x : X) → i < length xs → x ≡ get_or xs i x → any_true (map p (drop i xs)) ≡ (p x || any_true (map p (drop (i + 1) xs)))
 any_first p [] i x lt is = absurd (omega (arith, lt))
 any_first p (y ∷ ys) zero x lt is = ap (λ z. p z || any_true (map p ys)) (sym is)
 any_first p (y ∷ ys) (suc i) x lt is =

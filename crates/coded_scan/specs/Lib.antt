@@ -1,3 +1,4 @@
 pub mod RowFilters
+pub mod Marks
 pub mod Added
 pub mod Passed

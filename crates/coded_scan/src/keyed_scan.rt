@@ -6,8 +6,9 @@ ghost use Rattle.coded_columns.specs.Keys.{AreKeys};
 ghost use Rattle.coded_scan.specs.Passed.{passed};
 ghost use Rattle.coded_scan.specs.RowFilters.{all_let, passing};
 
+use crate::block::Block;
 use crate::filtered_rows::FilteredRows;
-use crate::selection::{Block, put_block};
+use crate::selection::put_block;
 use coded_columns::{KeyRoom, KeyedRows, PlacedRows, key_count};
 use std::alloc::Global;
 use table_schema::BoundQuery;

@@ -5,13 +5,17 @@
 #![tactic(auto)]
 
 mod adding;
+mod block;
+mod block_marks;
 mod coded_filter;
 mod filtered_rows;
+mod id_run;
 mod keyed_scan;
 mod marked_places;
 mod marking;
 mod merging;
 mod row_filter;
 mod selection;
+mod words;
 
 pub use adding::add_coded;

@@ -1,182 +1,223 @@
-//! Marks of rows, and which of them conditions leave.
+//! Marks of the rows of a block.
 
-ghost use Rattle.std.specs.Prelude.{◌≡◌, ◌&&◌, ◌||◌, ◌+◌, ◌<◌, ◌≤◌, ℕ, IfOk, get_or, false, true, length, nat_eq};
+ghost use Rattle.std.specs.Prelude.{◌≡◌, ◌<◌, ◌≤◌, ◌+◌, ◌-◌, ◌*◌, ◌^◌, ◌&&◌, ◌||◌, ℕ, Bool, false, cond, length, get_or, nat_le};
+ghost use Rattle.std.specs.Int.{bit_at};
 ghost use Rattle.value_ids.specs.Ids.{has_id};
-ghost use Rattle.scan_engine.specs.Selection.{Keeps};
-ghost use Rattle.coded_columns.specs.Coded.{Widens};
 ghost use Rattle.coded_columns.specs.Ids.{seen_ids};
-ghost use Rattle.coded_scan.specs.RowFilters.{covers, lets};
+ghost use Rattle.coded_scan.specs.Marks.{AreMarks, HasMarks, HasWords, IsWithMark, is_between, is_marked};
 
-use crate::row_filter::RowFilter;
+use crate::id_run::run_of;
 use coded_columns::IdSlices;
-use std::alloc::Global;
+use std::simd::prelude::*;
 use value_ids::IdSet;
-use values::NoMemory;
 
-/// Leaves the marks of the rows whose id is in a set.
-pub fn keep_ids(marks: &mut [bool], ids: IdSlices<'_>, matching: &IdSet)
-    requires { length marks.old ≡ length (seen_ids ids) }
-    ensures { Keeps (λ at. has_id matching.now (get_or (seen_ids ids.entry) at 0))
-        marks.old marks.new }
+/// An id in two bytes is less.
+const MOST_NARROW: u32 = 65_536;
+
+/// Marks the rows whose id is in a set.
+pub fn mark_ids(ids: IdSlices<'_>, matching: &IdSet, words: &mut [u64])
+    requires { HasWords (length (seen_ids ids)) words.old }
+    ensures { AreMarks (length (seen_ids ids.entry)) (λ row. has_id matching.now
+        (get_or (seen_ids ids.entry) row 0)) words.new }
 {
-    match matching.as_slice() {
-        [only] => keep_only(marks, ids, *only),
-        _ => keep_any(marks, ids, matching),
+    match run_of(matching.as_slice()) {
+        Some(run) => mark_run(ids, run.first, run.more, words),
+        None => mark_set(ids, matching, words),
     }
 }
 
-// Whether a mark stays.
-#[inline(always)]
-fn is_kept(mark: bool, holds: bool) -> bool
-    ensures { result ≡ (mark && holds) }
-{
-    mark & holds
-}
-
-// Leaves the marks of the rows of one id.
-fn keep_only(marks: &mut [bool], ids: IdSlices<'_>, only: u32)
-    requires { length marks.old ≡ length (seen_ids ids) }
-    ensures { Keeps (λ at. nat_eq (get_or (seen_ids ids.entry) at 0) only) marks.old marks.new }
+// The same where the ids of the set are no run.
+fn mark_set(ids: IdSlices<'_>, matching: &IdSet, words: &mut [u64])
+    requires { HasWords (length (seen_ids ids)) words.old }
+    ensures { AreMarks (length (seen_ids ids.entry)) (λ row. has_id matching.now
+        (get_or (seen_ids ids.entry) row 0)) words.new }
 {
     match ids {
-        IdSlices::Narrow(ids) => keep_narrow(marks, ids, only),
-        IdSlices::Wide(ids) => keep_wide(marks, ids, only),
+        IdSlices::Narrow(ids) => mark_narrow(ids, matching, words),
+        IdSlices::Wide(ids) => mark_wide(ids, matching, words),
     }
 }
 
 // The same where an id takes two bytes.
-fn keep_narrow(marks: &mut [bool], ids: &[u16], only: u32)
-    requires { length marks.old ≡ length ids.now }
-    ensures { Keeps (λ at. nat_eq (get_or ids.now at 0) only) marks.old marks.new }
+fn mark_narrow(ids: &[u16], matching: &IdSet, words: &mut [u64])
+    requires { HasWords (length ids.now) words.old }
+    ensures { AreMarks (length ids.now) (λ row. has_id matching.now (get_or ids.now row 0))
+        words.new }
 {
-    for at in 0..marks.len() {
-        marks[at] = is_kept(marks[at], u32::from(ids[at]) == only);
+    for at in 0..words.len() {
+        words[at] = narrow_word(ids, 64 * at, matching);
     }
 }
 
 // The same where an id takes four bytes.
-fn keep_wide(marks: &mut [bool], ids: &[u32], only: u32)
-    requires { length marks.old ≡ length ids.now }
-    ensures { Keeps (λ at. nat_eq (get_or ids.now at 0) only) marks.old marks.new }
+fn mark_wide(ids: &[u32], matching: &IdSet, words: &mut [u64])
+    requires { HasWords (length ids.now) words.old }
+    ensures { AreMarks (length ids.now) (λ row. has_id matching.now (get_or ids.now row 0))
+        words.new }
 {
-    for at in 0..marks.len() {
-        marks[at] = is_kept(marks[at], ids[at] == only);
+    for at in 0..words.len() {
+        words[at] = wide_word(ids, 64 * at, matching);
     }
 }
 
-// Leaves the marks of the rows whose id has its bit in the mask of a set.
-fn keep_any(marks: &mut [bool], ids: IdSlices<'_>, matching: &IdSet)
-    requires { length marks.old ≡ length (seen_ids ids) }
-    ensures { Keeps (λ at. has_id matching.now (get_or (seen_ids ids.entry) at 0))
-        marks.old marks.new }
-{
-    for at in 0..marks.len() {
-        marks[at] = is_kept(marks[at], matching.contains(ids.at(at)));
-    }
-}
-
-/// Leaves all marks, or none.
-pub fn keep_if(marks: &mut [bool], holds: bool)
-    ensures { Keeps (λ at. holds) marks.old marks.new }
-{
-    for at in 0..marks.len() {
-        marks[at] = is_kept(marks[at], holds);
-    }
-}
-
-/// Leaves the marks that others have too.
-pub fn keep_marked(marks: &mut [bool], others: &[bool])
-    requires { length marks.old ≡ length others.now }
-    ensures { Keeps (λ at. get_or others.now at false) marks.old marks.new }
-{
-    for at in 0..marks.len() {
-        marks[at] = is_kept(marks[at], others[at]);
-    }
-}
-
-// Whether there is a mark of either kind.
+// The marks of at most 64 rows whose ids take two bytes.
 #[inline(always)]
-fn is_either(mark: bool, other: bool) -> bool
-    ensures { result ≡ (mark || other) }
+fn narrow_word(ids: &[u16], from: usize, matching: &IdSet) -> u64
+    requires { from < 2 ^ 32 }
+    ensures { HasMarks (is_marked (length ids.now) (λ row. has_id matching.now
+        (get_or ids.now row 0))) from result }
 {
-    mark | other
+    let end = ids.len().min(from + 64);
+    let mut word = 0;
+    for at in from..end {
+        word = with_mark(
+            word,
+            (at - from) as u32,
+            matching.contains(u32::from(ids[at])),
+        );
+    }
+    word
 }
 
-// Adds the marks that others have.
-fn add_marked(marks: &mut [bool], others: &[bool])
-    requires { length marks.old ≡ length others.now }
-    ensures { Widens (λ at. get_or others.now at false) marks.old marks.new }
+// The same where an id takes four bytes.
+#[inline(always)]
+fn wide_word(ids: &[u32], from: usize, matching: &IdSet) -> u64
+    requires { from < 2 ^ 32 }
+    ensures { HasMarks (is_marked (length ids.now) (λ row. has_id matching.now
+        (get_or ids.now row 0))) from result }
 {
-    for at in 0..marks.len() {
-        marks[at] = is_either(marks[at], others[at]);
+    let end = ids.len().min(from + 64);
+    let mut word = 0;
+    for at in from..end {
+        word = with_mark(word, (at - from) as u32, matching.contains(ids[at]));
+    }
+    word
+}
+
+// Marks the rows whose id is one of a run of so many ids after a first.
+fn mark_run(ids: IdSlices<'_>, first: u32, more: u32, words: &mut [u64])
+    requires words { HasWords (length (seen_ids ids)) words.old }
+    requires run { first + more < 2 ^ 32 }
+    ensures { AreMarks (length (seen_ids ids.entry)) (λ row. is_between first (first + more)
+        (get_or (seen_ids ids.entry) row 0)) words.new }
+{
+    for at in 0..words.len() {
+        words[at] = run_word(ids, 64 * at, first, more);
     }
 }
 
-/// A mark for each of some rows from one on, whether a condition lets it through.
-pub fn marks_of(
-    alloc: Global,
-    count: usize,
-    from: usize,
-    many: usize,
-    row_filter: &RowFilter<'_>,
-) -> Result<Vec<bool>, NoMemory>
-    requires covers { covers count row_filter.now ≡ true }
-    requires within { from + many ≤ count }
-    ensures count { IfOk result (λ marks. length marks.items ≡ many) }
-    ensures each { IfOk result (λ marks. (at : ℕ) → at < many
-        → get_or marks.items at false ≡ lets (from + at) row_filter.now) }
+// The marks of at most 64 rows.
+#[inline(always)]
+fn run_word(ids: IdSlices<'_>, from: usize, first: u32, more: u32) -> u64
+    requires from { from < 2 ^ 32 }
+    requires run { first + more < 2 ^ 32 }
+    ensures { HasMarks (is_marked (length (seen_ids ids.entry))
+        (λ row. is_between first (first + more) (get_or (seen_ids ids.entry) row 0))) from result }
 {
-    match row_filter {
-        RowFilter::Ids(ids, matching) => {
-            let marks = marks_of_ids(alloc, ids.between(from, many), many, matching)?;
-            Ok(marks)
-        }
-        RowFilter::Fixed(holds) => {
-            let marks = same_marks(alloc, *holds, many)?;
-            Ok(marks)
-        }
-        RowFilter::All(inner) => {
-            let mut marks = same_marks(alloc, true, many)?;
-            for member in inner.as_slice() {
-                let others = marks_of(alloc, count, from, many, member)?;
-                keep_marked(&mut marks, &others);
-            }
-            Ok(marks)
-        }
-        RowFilter::Any(inner) => {
-            let mut marks = same_marks(alloc, false, many)?;
-            for member in inner.as_slice() {
-                let others = marks_of(alloc, count, from, many, member)?;
-                add_marked(&mut marks, &others);
-            }
-            Ok(marks)
-        }
+    if ids.count() < from + 64 {
+        return rest_of_run(ids, from, first, more);
+    }
+    match ids {
+        IdSlices::Narrow(ids) => narrow_run(ids, from, first, more),
+        IdSlices::Wide(ids) => wide_lanes(u32x64::from_slice(&ids[from..]), first, more),
     }
 }
 
-// So many marks that are all the same.
-fn same_marks(alloc: Global, holds: bool, many: usize) -> Result<Vec<bool>, NoMemory>
-    ensures count { IfOk result (λ marks. length marks.items ≡ many) }
-    ensures each { IfOk result (λ marks. (at : ℕ) → at < many
-        → get_or marks.items at false ≡ holds) }
+// The marks of less than 64 rows.
+fn rest_of_run(ids: IdSlices<'_>, from: usize, first: u32, more: u32) -> u64
+    requires few { length (seen_ids ids) < from + 64 }
+    requires from { from < 2 ^ 32 }
+    requires run { first + more < 2 ^ 32 }
+    ensures { HasMarks (is_marked (length (seen_ids ids.entry))
+        (λ row. is_between first (first + more) (get_or (seen_ids ids.entry) row 0))) from result }
 {
-    let marks = vec![in alloc; holds; many]?;
-    Ok(marks)
+    let mut word = 0;
+    for at in from..ids.count() {
+        word = with_mark(word, (at - from) as u32, is_in_run(ids.at(at), first, more));
+    }
+    word
 }
 
-// A mark for each of so many rows, whether its id is in a set.
-fn marks_of_ids(
-    alloc: Global,
-    ids: IdSlices<'_>,
-    many: usize,
-    matching: &IdSet,
-) -> Result<Vec<bool>, NoMemory>
-    requires { length (seen_ids ids) ≡ many }
-    ensures count { IfOk result (λ marks. length marks.items ≡ many) }
-    ensures each { IfOk result (λ marks. (at : ℕ) → at < many
-        → get_or marks.items at false ≡ has_id matching.now (get_or (seen_ids ids.entry) at 0)) }
+// Whether an id is one of so many after a first.
+#[inline(always)]
+fn is_in_run(id: u32, first: u32, more: u32) -> bool
+    requires { first + more < 2 ^ 32 }
+    ensures { result ≡ is_between first (first + more) id }
 {
-    let mut marks = vec![in alloc; true; many]?;
-    keep_ids(&mut marks, ids, matching);
-    Ok(marks)
+    first <= id && id <= first + more
+}
+
+// The marks of 64 rows whose ids take two bytes each.
+#[inline(always)]
+fn narrow_run(ids: &[u16], from: usize, first: u32, more: u32) -> u64
+    requires there { from + 64 ≤ length ids.now }
+    requires run { first + more < 2 ^ 32 }
+    ensures { HasMarks (is_marked (length ids.now) (λ row. is_between first (first + more)
+        (get_or ids.now row 0))) from result }
+{
+    if first >= MOST_NARROW {
+        return 0;
+    }
+    let most = more.min(MOST_NARROW - 1 - first);
+    narrow_lanes(u16x64::from_slice(&ids[from..]), first as u16, most as u16)
+}
+
+// A bit for each lane, whether it is one of a run of ids.
+#[inline(always)]
+fn narrow_lanes(lanes: u16x64, first: u16, more: u16) -> u64
+    requires { first + more < 2 ^ 16 }
+    ensures { (i : ℕ) → i < 64 → bit_at result i
+        ≡ cond (is_between first (first + more) (get_or lanes i 0)) 1 0 }
+{
+    (lanes - u16x64::splat(first))
+        .simd_le(u16x64::splat(more))
+        .to_bitmask()
+}
+
+// The same where an id takes four bytes.
+#[inline(always)]
+fn wide_lanes(lanes: u32x64, first: u32, more: u32) -> u64
+    requires { first + more < 2 ^ 32 }
+    ensures { (i : ℕ) → i < 64 → bit_at result i
+        ≡ cond (is_between first (first + more) (get_or lanes i 0)) 1 0 }
+{
+    (lanes - u32x64::splat(first))
+        .simd_le(u32x64::splat(more))
+        .to_bitmask()
+}
+
+// A word of so many marks, with one more.
+#[inline(always)]
+fn with_mark(word: u64, at: u32, mark: bool) -> u64
+    requires at { at < 64 }
+    requires word { word < 2 ^ at }
+    ensures { IsWithMark at mark word result }
+{
+    word | u64::from(mark) << at
+}
+
+/// Marks so many rows, or none.
+pub fn mark_same(many: usize, holds: bool, words: &mut [u64])
+    requires { HasWords many words.old }
+    ensures { AreMarks many (λ row. holds) words.new }
+{
+    for at in 0..words.len() {
+        words[at] = same_word(many, 64 * at, holds);
+    }
+}
+
+// The same marks of at most 64 rows.
+#[inline(always)]
+fn same_word(many: usize, from: usize, holds: bool) -> u64
+    requires { from < 2 ^ 32 }
+    ensures { HasMarks (is_marked many (λ row. holds)) from result }
+{
+    if !holds || many <= from {
+        return 0;
+    }
+    let rest = many - from;
+    if rest >= 64 {
+        return u64::MAX;
+    }
+    (1 << rest as u32) - 1
 }
