@@ -10,3 +10,4 @@ mod PassLemmas
 mod StatedLemmas
 pub mod OneReads
 pub mod PlanLemmas
+mod EmptyLemmas

@@ -10,15 +10,15 @@ use eligibility::pick;
 use group_table::GroupTable;
 use outside::Shelf;
 use segment_head::{EngineFault, Stored};
-use segment_opening::{load_wanted, open_segment};
-use segment_plan::{SegmentPlan, head_tells_law, plan_over_law, prune, pruned_law};
+use segment_opening::{load_unless_emptied, open_segment};
+use segment_plan::{SegmentPlan, empty_law, head_tells_law, plan_over_law, prune, pruned_law};
 use star_answer::docs_bound_law;
 use std::alloc::Global;
 use table_schema::{BoundQuery, Table};
 
 /// Adds the rows of a segment that satisfy the filter of a query to its groups, by a star-tree
 /// where one serves the query. Of a segment that its bounds exclude no more than the front and the
-/// bounds is read.
+/// bounds is read. Where no value of a large dictionary satisfies a conjunct, none is loaded.
 pub(crate) fn add_segment<S: Shelf>(
     alloc: Global,
     shelf: &mut S,
@@ -41,14 +41,18 @@ pub(crate) fn add_segment<S: Shelf>(
     };
     head_tells_law();
     pruned_law();
+    empty_law();
     plan_over_law();
     if prune(query, &head) {
         return Ok(nothing(SegmentPlan::Pruned));
     }
     let by_tree = pick(query, table.settings.trees.as_slice()).is_some();
-    match load_wanted(alloc, shelf, table, query, by_tree, &mut head) {
-        Ok(()) => {}
+    let loaded = match load_unless_emptied(alloc, shelf, table, query, by_tree, &mut head) {
+        Ok(loaded) => loaded,
         Err(fault) => return Err(fault),
+    };
+    if !loaded {
+        return Ok(nothing(SegmentPlan::Empty));
     }
     add_planned(alloc, shelf, table, &head, query, groups)
 }

@@ -1,5 +1,5 @@
 -- What the calls that open a segment ask, give, are refused by and read.
-use Rattle.std.specs.Prelude.{◌≡◌, ◌≢◌, ◌<◌, ◌⊎◌, ℕ, List, length, Option, Some, Result, Err, IfSome, IsErrOf, OnOk}
+use Rattle.std.specs.Prelude.{◌≡◌, ◌≢◌, ◌<◌, ◌⊎◌, ℕ, Bool, false, List, length, Option, Some, Result, Err, IfSome, IsErrOf, OnOk}
 use Rattle.outside.specs.Files.{Files, bytes_of}
 use Rattle.outside.specs.Seen.{OnlyReads, Seen}
 use Rattle.table_schema.specs.ValidQuery.{IsValidQuery}
@@ -13,6 +13,8 @@ use Rattle.segment_head.specs.Stored.{HasNoImage}
 use Rattle.segment_head.specs.declared.stored.Stored.{Stored}
 use Rattle.segment_head.specs.declared.fault.EngineFault.{EngineFault}
 use Rattle.segment_head.specs.declared.fault.EngineFault.TheVariants as engine
+use Rattle.segment_plan.specs.Matched.{AreLoaded}
+use Rattle.segment_plan.specs.Named.{AreGroupsLoaded, AreNamedLoaded}
 use Rattle.segment_reads.specs.Logs.{DictionariesEnd, EndsBy, EndsInHead, LogsHeadOf, LogsThat}
 use Rattle.segment_opening.specs.Opened.{Grows, IsHeadIn, IsSpreadIn}
 
@@ -89,3 +91,22 @@ pub record LoadsMore {A : Type 0} (table : Table) (result : Result A EngineFault
   pub only_reads : OnlyReads (IsErrOf result engine.ReadFault) old new
   pub log : (file : List ℕ) (end : ℕ) → heads.AreIn file head.sections
       → DictionariesEnd table head end → LogsThat (EndsBy file end) old.log new.log
+
+-- ---- dictionaries that are looked up
+
+-- values were looked up in dictionaries of a head; no part of its file is refused for that, and
+-- nothing past them was read
+pub record LooksUp {A : Type 0} (table : Table) (result : Result A EngineFault) (head : heads.Seen)
+    (old new : Seen) : Type 0 where
+  pub never_bad : (part : Part) → result ≢ Err (engine.NotASegment part)
+  pub never_full : result ≢ Err engine.TooManyGroups
+  pub only_reads : OnlyReads (IsErrOf result engine.ReadFault) old new
+  pub log : (file : List ℕ) (end : ℕ) → heads.AreIn file head.sections
+      → DictionariesEnd table head end → LogsThat (EndsBy file end) old.log new.log
+
+-- what the answer of a segment wants was loaded, as it is asked for an answer by a star-tree or
+-- not
+pub record HasWanted (query : BoundQuery) (by_tree : Bool) (head : heads.Seen) : Type 0 where
+  pub filtered : AreLoaded query.conjuncts head
+  pub grouped : AreGroupsLoaded query.groups head
+  pub named : by_tree ≡ false → AreNamedLoaded query head

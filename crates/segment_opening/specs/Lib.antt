@@ -1,3 +1,4 @@
 pub mod Opened
 pub mod Calls
 pub mod Wanted
+pub mod Emptied

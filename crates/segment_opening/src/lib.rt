@@ -2,9 +2,10 @@
 //! what a query reads of the file of a segment.
 #![tactic(auto)]
 
+mod emptied;
 mod loading;
 mod opening;
 mod wanted;
 
-pub use loading::{load_detailed, load_wanted};
+pub use loading::{load_detailed, load_unless_emptied};
 pub use opening::open_segment;

@@ -1,23 +1,53 @@
 //! The dictionaries of a segment that a query wants are loaded.
-ghost use Rattle.std.specs.Prelude.{◌≡◌, ◌<◌, true, false, IfSome, ℕ, OnOk, get_or, length};
+ghost use Rattle.std.specs.Prelude.{◌≡◌, ◌<◌, true, false, IfOk, IfSome, ℕ, OnOk, get_or, length};
 ghost use Rattle.outside.specs.Seen.{seen};
 ghost use Rattle.segment_head.specs.Heads.{IsHeadOf, IsLoaded};
 ghost use Rattle.segment_plan.specs.Matched.{AreLoaded};
-ghost use Rattle.segment_plan.specs.Named.{AreGroupsLoaded, AreNamedLoaded};
 ghost use Rattle.table_schema.specs.ValidTable.{IsValidTable};
-ghost use Rattle.segment_opening.specs.Calls.{IsQueryOnHead, LoadsMore};
+ghost use Rattle.segment_opening.specs.Calls.{HasWanted, IsQueryOnHead, LoadsMore};
+ghost use Rattle.segment_opening.specs.Emptied.{IsEmptied};
 ghost use Rattle.segment_opening.specs.Wanted.{AreFactorsLoaded};
 
+use crate::emptied::is_emptied;
 use crate::wanted::{detailed_columns, wanted_columns};
 use outside::Shelf;
 use segment_head::{EngineFault, Head, engine_fault};
 use std::alloc::Global;
 use table_schema::{BoundQuery, Table};
 
-/// Loads the dictionaries that the answer of a segment wants, and no other: where a star-tree
-/// answers, of the columns that a conjunct names alone and of the group columns; else of each
-/// column that the query names.
-pub fn load_wanted<S: Shelf>(
+/// Loads the dictionaries that the answer of a segment wants, unless a conjunct is known to match
+/// no value of its column: then none is loaded. Answers whether they were loaded.
+pub fn load_unless_emptied<S: Shelf>(
+    alloc: Global,
+    shelf: &mut S,
+    table: &Table,
+    query: &BoundQuery,
+    by_tree: bool,
+    head: &mut Head,
+) -> Result<bool, EngineFault>
+    requires { IsQueryOnHead query.now table.now head.old }
+    ensures loads { LoadsMore table.now result head.old head.new
+        (seen S.Shelf shelf.old) (seen S.Shelf shelf.new) }
+    ensures wanted { IfOk result (λ loaded. loaded ≡ true →
+        HasWanted query.now by_tree head.new) }
+    ensures emptied { IfOk result (λ loaded. loaded ≡ false →
+        IsEmptied query.now table.now (S.held shelf.old) head.old) }
+{
+    match is_emptied(alloc, shelf, table, query, head) {
+        Ok(true) => return Ok(false),
+        Ok(false) => {}
+        Err(fault) => return Err(fault),
+    }
+    match load_wanted(alloc, shelf, table, query, by_tree, head) {
+        Ok(()) => Ok(true),
+        Err(fault) => Err(fault),
+    }
+}
+
+// Loads the dictionaries that the answer of a segment wants, and no other: where a star-tree
+// answers, of the columns that a conjunct names alone and of the group columns; else of each column
+// that the query names.
+fn load_wanted<S: Shelf>(
     alloc: Global,
     shelf: &mut S,
     table: &Table,
@@ -28,9 +58,7 @@ pub fn load_wanted<S: Shelf>(
     requires { IsQueryOnHead query.now table.now head.old }
     ensures loads { LoadsMore table.now result head.old head.new
         (seen S.Shelf shelf.old) (seen S.Shelf shelf.new) }
-    ensures filtered { OnOk result (AreLoaded query.now.conjuncts head.new) }
-    ensures grouped { OnOk result (AreGroupsLoaded query.now.groups head.new) }
-    ensures named { OnOk result (by_tree ≡ false → AreNamedLoaded query.now head.new) }
+    ensures wanted { OnOk result (HasWanted query.now by_tree head.new) }
 {
     let wanted = wanted_columns(alloc, query, by_tree, table.schema.fields.len())?;
     load_marked(alloc, shelf, table, wanted.as_slice(), head)

@@ -7,6 +7,7 @@ use Rattle.segment_head.specs.Stored.{HasNoImage}
 use Rattle.query_executor.specs.Steps.{AddsStored, IsStoredOverfull}
 use Rattle.segment_reads.specs.Looked.{IsDoneIn}
 use Rattle.segment_opening.specs.Calls.{FailsColumn, IsOpened}
+use Rattle.segment_opening.specs.Emptied.{IsEmptied}
 use Rattle.segment_opening.specs.Opened.{Grows, IsHeadIn}
 use Rattle.query_executor.specs.Passes.{IsBadPart}
 use Rattle.segment_plan.specs.declared.plans.SegmentPlan.TheVariants.{Pruned}
@@ -15,6 +16,7 @@ use Rattle.query_executor.proofs.PlanLemmas.{pruned_planned}
 use Rattle.query_executor.proofs.EndLemmas.{no_fault, own_fault, reads_done, reads_failed, reads_still, found_so}
 use Rattle.segment_opening.proofs.HeadLemmas.{opened_later}
 use Rattle.segment_reads.proofs.LogLemmas.{head_in, loaded_in, logs_then, reads_then}
+use Rattle.query_executor.proofs.EmptyLemmas.{adds_empty, empty_done}
 use Rattle.query_executor.proofs.SegmentLemmas.{adds_none}
 use Rattle.segment_scan.proofs.SegmentLemmas.{ok_so}
 use Rattle.segment_reads.specs.Reads.{LogsOne, ReadsPlanned}
@@ -30,17 +32,17 @@ on_ok (Err e) p = tt
 pub open_segment-requires : goal.open_segment-requires
 open_segment-requires g c = record { valid = c.requires.of_table.valid; name = c.requires.of_table.name }
 
-pub load_wanted-requires : goal.load_wanted-requires
-load_wanted-requires g c = record { valid = c.requires.of_table.valid; query = c.requires.of_table.query; of_table = c.in-Ok.ensures.opened.of }
+pub load_unless_emptied-requires : goal.load_unless_emptied-requires
+load_unless_emptied-requires g c = record { valid = c.requires.of_table.valid; query = c.requires.of_table.query; of_table = c.in-Ok.ensures.opened.of }
 
 pub add_planned-requires : goal.add_planned-requires
 add_planned-requires g c = record {
   room = c.requires.room;
   loaded = record {
-    asked = record { valid = c.requires.of_table.valid; query = c.requires.of_table.query; of_table = c.in-Ok-load_wanted.ensures.loads.grows.of_table };
-    filtered = c.in-Ok-load_wanted.ensures.filtered;
-    grouped = c.in-Ok-load_wanted.ensures.grouped;
-    named = λ none. c.in-Ok-load_wanted.ensures.named (c.is_some-by_tree.ensures ∙ ap is_some (c.pick.ensures ∙ ap (picked c.args.query.now) c.as_slice.ensures ∙ none));
+    asked = record { valid = c.requires.of_table.valid; query = c.requires.of_table.query; of_table = c.in-Ok-load_unless_emptied.ensures.loads.grows.of_table };
+    filtered = (c.in-Ok-load_unless_emptied.ensures.wanted c.if-not-loaded.false).filtered;
+    grouped = (c.in-Ok-load_unless_emptied.ensures.wanted c.if-not-loaded.false).grouped;
+    named = λ none. (c.in-Ok-load_unless_emptied.ensures.wanted c.if-not-loaded.false).named (c.is_some-by_tree.ensures ∙ ap is_some (c.pick.ensures ∙ ap (picked c.args.query.now) c.as_slice.ensures ∙ none));
   };
 }
 
@@ -91,37 +93,70 @@ returns-then-prune g c =
       done = done;
     }
 
-pub returns-in-Err-load_wanted : goal.returns-in-Err-load_wanted
-returns-in-Err-load_wanted g c =
+pub returns-then-not-loaded : goal.returns-then-not-loaded
+returns-then-not-loaded g c =
     let a : Seen = seen g.S.Shelf c.args.shelf.now in
     let b : Seen = seen g.S.Shelf c.open_segment.new.shelf in
-    let d : Seen = seen g.S.Shelf c.load_wanted.new.shelf in
+    let d : Seen = seen g.S.Shelf c.load_unless_emptied.new.shelf in
     let query = c.args.query.now in
     let table = c.args.table.now in
     let segment = c.args.segment.now in
     let head = c.in-Ok.head in
-    let fault = c.in-Err-load_wanted.fault in
+    let same = c.in-Ok.ensures.looks.only_reads.held in
+    let none : IsEmptied query table a.held head = subst (λ h. IsEmptied query table h head) same (c.in-Ok-load_unless_emptied.ensures.emptied c.if-not-loaded.true) in
+    let opened = head_in table segment a.held a.log b.log c.in-Ok.ensures.looks.log in
+    let loaded = loaded_in table segment head b.log d.log c.in-Ok.ensures.opened.of c.in-Ok.ensures.opened.placed c.in-Ok-load_unless_emptied.ensures.loads.log in
+    let heads = heads_then query table segment a.held a.log b.log d.log opened loaded
+    (opened_one query table segment c.requires.of_table.valid c.requires.of_table.name a.held a.log b.log c.in-Ok.ensures.looks.log)
+    (loaded_one query table segment a.held head b.log d.log c.in-Ok.ensures.opened.placed c.in-Ok.ensures.opened.spread c.in-Ok-load_unless_emptied.ensures.loads.log) in
+    let done = empty_done query table segment head c.requires.of_table.valid c.head_tells_law.ensures c.plan_over_law.ensures c.requires.of_table.query a.held c.nothing-then-not-loaded.result.plan c.nothing-then-not-loaded.result.docs
+    c.nothing-then-not-loaded.ensures.plan c.nothing-then-not-loaded.ensures.none (sym c.prune.ensures ∙ c.if-prune.false) none c.in-Ok.ensures.opened.image in
+    record {
+      adds = record {
+        added = adds_empty query table segment head c.requires.of_table.valid c.head_tells_law.ensures c.empty_law.ensures a.held c.args.groups.now c.requires.room.of_query none c.in-Ok.ensures.opened.image;
+        opens = c.in-Ok.ensures.opened.opening;
+        full = λ fault. absurd (no_fault _ _ engine.TooManyGroups fault);
+        filled = λ fault. absurd (no_fault _ _ engine.TooManyGroups fault);
+        bad = λ part fault. absurd (no_fault _ _ (engine.NotASegment part) fault);
+        only_reads = reads_then a b d (reads_still _ head engine.ReadFault a b c.in-Ok.ensures.looks.only_reads) (reads_done _ _ c.in-Ok-load_unless_emptied.loaded _ engine.ReadFault b d c.in-Ok-load_unless_emptied.ensures.loads.only_reads);
+        log = logs_then (λ other. other ≡ segment.file) a.log b.log d.log opened loaded;
+        reads = quiet_one query table segment a.held c.nothing-then-not-loaded.result.plan c.nothing-then-not-loaded.result.docs a.log d.log done (inr c.nothing-then-not-loaded.ensures.plan) heads;
+        reads_of_fault = tt;
+      };
+      done = done;
+    }
+
+pub returns-in-Err-load_unless_emptied : goal.returns-in-Err-load_unless_emptied
+returns-in-Err-load_unless_emptied g c =
+    let a : Seen = seen g.S.Shelf c.args.shelf.now in
+    let b : Seen = seen g.S.Shelf c.open_segment.new.shelf in
+    let d : Seen = seen g.S.Shelf c.load_unless_emptied.new.shelf in
+    let query = c.args.query.now in
+    let table = c.args.table.now in
+    let segment = c.args.segment.now in
+    let head = c.in-Ok.head in
+    let fault = c.in-Err-load_unless_emptied.fault in
     let same = c.in-Ok.ensures.looks.only_reads.held in
     let opened = head_in table segment a.held a.log b.log c.in-Ok.ensures.looks.log in
-    let loaded = loaded_in table segment head b.log d.log c.in-Ok.ensures.opened.of c.in-Ok.ensures.opened.placed c.in-Err-load_wanted.ensures.loads.log in
+    let loaded = loaded_in table segment head b.log d.log c.in-Ok.ensures.opened.of c.in-Ok.ensures.opened.placed c.in-Err-load_unless_emptied.ensures.loads.log in
     record {
       adds = record {
         added = tt;
         opens = tt;
-        full = λ is. absurd (c.in-Err-load_wanted.ensures.loads.never_full (ap Err (own_fault _ fault engine.TooManyGroups is)));
-        filled = λ is. absurd (c.in-Err-load_wanted.ensures.loads.never_full (ap Err (own_fault _ fault engine.TooManyGroups is)));
+        full = λ is. absurd (c.in-Err-load_unless_emptied.ensures.loads.never_full (ap Err (own_fault _ fault engine.TooManyGroups is)));
+        filled = λ is. absurd (c.in-Err-load_unless_emptied.ensures.loads.never_full (ap Err (own_fault _ fault engine.TooManyGroups is)));
         bad = λ part is.
             let own = ap Err (own_fault _ fault (engine.NotASegment part) is) in (
-              inl (inr (head, c.in-Ok.ensures.opened, subst (λ held. FailsColumn table held head part) same (c.in-Err-load_wanted.ensures.loads.named part own))),
+              inl (inr (head, c.in-Ok.ensures.opened, subst (λ held. FailsColumn table held head part) same (c.in-Err-load_unless_emptied.ensures.loads.named part own))),
               subst (λ held. IfSome held (λ files. HasNoImage table files segment)) same
-                  (c.in-Err-load_wanted.ensures.loads.bad part own segment (subst (λ held. IsHeadIn table held segment head) (sym same) c.in-Ok.ensures.opened.image)),
+                  (c.in-Err-load_unless_emptied.ensures.loads.bad part own segment (subst (λ held. IsHeadIn table held segment head) (sym same) c.in-Ok.ensures.opened.image)),
             );
-        only_reads = reads_then a b d (reads_still _ head engine.ReadFault a b c.in-Ok.ensures.looks.only_reads) (reads_failed _ _ fault engine.ReadFault b d c.in-Err-load_wanted.ensures.loads.only_reads);
+        only_reads = reads_then a b d (reads_still _ head engine.ReadFault a b c.in-Ok.ensures.looks.only_reads) (reads_failed _ _ fault engine.ReadFault b d c.in-Err-load_unless_emptied.ensures.loads.only_reads);
         log = logs_then (λ other. other ≡ segment.file) a.log b.log d.log opened loaded;
         reads = tt;
         reads_of_fault = given_up query table segment c.docs_bound_law.ensures.bound c.requires.of_table.valid a.held a.log d.log
             (heads_then query table segment a.held a.log b.log d.log opened loaded
-            (opened_one query table segment c.requires.of_table.valid c.requires.of_table.name a.held a.log b.log c.in-Ok.ensures.looks.log) (loaded_one query table segment a.held head b.log d.log c.in-Ok.ensures.opened.placed c.in-Ok.ensures.opened.spread c.in-Err-load_wanted.ensures.loads.log));
+            (opened_one query table segment c.requires.of_table.valid c.requires.of_table.name a.held a.log b.log c.in-Ok.ensures.looks.log) (loaded_one query table segment a.held head b.log d.log c.in-Ok.ensures.opened.placed c.in-Ok.ensures.opened.spread c.in-Err-load_unless_emptied.ensures.loads.log));
       };
       done = tt;
     }
@@ -130,21 +165,21 @@ pub returns : goal.returns
 returns g c =
     let a : Seen = seen g.S.Shelf c.args.shelf.now in
     let b : Seen = seen g.S.Shelf c.open_segment.new.shelf in
-    let d : Seen = seen g.S.Shelf c.load_wanted.new.shelf in
+    let d : Seen = seen g.S.Shelf c.load_unless_emptied.new.shelf in
     let e : Seen = seen g.S.Shelf c.add_planned.new.shelf in
     let query = c.args.query.now in
     let table = c.args.table.now in
     let segment = c.args.segment.now in
     let head = c.in-Ok.head in
-    let full = c.load_wanted.new.head in
-    let same = c.in-Ok-load_wanted.ensures.loads.only_reads.held ∙ c.in-Ok.ensures.looks.only_reads.held in
-    let grown : Grows table a.held head full = subst (λ h. Grows table h head full) c.in-Ok.ensures.looks.only_reads.held c.in-Ok-load_wanted.ensures.loads.grows in
+    let full = c.load_unless_emptied.new.head in
+    let same = c.in-Ok-load_unless_emptied.ensures.loads.only_reads.held ∙ c.in-Ok.ensures.looks.only_reads.held in
+    let grown : Grows table a.held head full = subst (λ h. Grows table h head full) c.in-Ok.ensures.looks.only_reads.held c.in-Ok-load_unless_emptied.ensures.loads.grows in
     let later : IsOpened table d.held segment full = subst (λ h. IsOpened table h segment full) (sym same) (opened_later table a.held segment head full grown c.in-Ok.ensures.opened) in
     let opened = head_in table segment a.held a.log b.log c.in-Ok.ensures.looks.log in
-    let loaded = loaded_in table segment head b.log d.log c.in-Ok.ensures.opened.of c.in-Ok.ensures.opened.placed c.in-Ok-load_wanted.ensures.loads.log in
+    let loaded = loaded_in table segment head b.log d.log c.in-Ok.ensures.opened.of c.in-Ok.ensures.opened.placed c.in-Ok-load_unless_emptied.ensures.loads.log in
     let first = logs_then (λ other. other ≡ segment.file) a.log b.log d.log opened loaded in
     let heads = heads_then query table segment a.held a.log b.log d.log opened loaded
-    (opened_one query table segment c.requires.of_table.valid c.requires.of_table.name a.held a.log b.log c.in-Ok.ensures.looks.log) (loaded_one query table segment a.held head b.log d.log c.in-Ok.ensures.opened.placed c.in-Ok.ensures.opened.spread c.in-Ok-load_wanted.ensures.loads.log) in
+    (opened_one query table segment c.requires.of_table.valid c.requires.of_table.name a.held a.log b.log c.in-Ok.ensures.looks.log) (loaded_one query table segment a.held head b.log d.log c.in-Ok.ensures.opened.placed c.in-Ok.ensures.opened.spread c.in-Ok-load_unless_emptied.ensures.loads.log) in
     let adds = c.add_planned.ensures.adds segment later in
     record {
       adds = record {
@@ -154,7 +189,7 @@ returns g c =
         filled = adds.filled;
         bad = λ part is. subst (λ h. IsBadPart query table h segment part) same (adds.bad part is);
         only_reads = reads_then a d e
-            (reads_then a b d (reads_still _ head engine.ReadFault a b c.in-Ok.ensures.looks.only_reads) (reads_still _ tt engine.ReadFault b d c.in-Ok-load_wanted.ensures.loads.only_reads))
+            (reads_then a b d (reads_still _ head engine.ReadFault a b c.in-Ok.ensures.looks.only_reads) (reads_still _ c.in-Ok-load_unless_emptied.loaded engine.ReadFault b d c.in-Ok-load_unless_emptied.ensures.loads.only_reads))
             adds.only_reads;
         log = logs_then (λ other. other ≡ segment.file) a.log d.log e.log first adds.log;
         reads = ok_so c.add_planned.result (LogsOne (ReadsPlanned query table true) table d.held segment d.log e.log) (LogsOne (ReadsPlanned query table true) table a.held segment a.log e.log)
