@@ -11,7 +11,11 @@ mod NumberLemmas
 mod NumberTextLemmas
 mod PartLines
 mod PartRows
+mod KeptBlocks
+mod KeptLemmas
+mod KeptLines
 mod PlaceLemmas
+mod PlainLemmas
 mod ReadingLemmas
 mod SchemaLemmas
 mod StepLemmas

@@ -22,6 +22,7 @@ use Rattle.csv_row.specs.Row.{csv_limits, place_of, placed, row_at, value_at}
 use Rattle.csv_row.specs.declared.fault.CsvFault.{CsvFault}
 use Rattle.csv_row.specs.declared.layout.Layout.{Layout}
 use Rattle.csv_ingest.specs.Blocks.{RowsOrFault, rows_from}
+use Rattle.csv_ingest.specs.Kept.{Grown}
 use Rattle.csv_ingest.specs.Lines.{AreLines, AtLineEnd}
 use Rattle.csv_ingest.specs.Names.{number_field}
 use Rattle.csv_ingest.specs.Parts.{AddsPart, IsPart, ReadsPart, field_value, line_cells, mark_at}
@@ -32,23 +33,17 @@ use Rattle.csv_ingest.proofs.PartRows.{cells-count, end-feed, last-within, line-
 
 -- ---- columns with more values at their ends
 
--- so many values more
-record Grown (rows : ℕ) (old new : Listed) : Type 0 where
-  pub values : List Value
-  pub count : length values ≡ rows
-  pub new_is : new ≡ record { are_texts = old.are_texts; values = old.values ++ values }
-
-abbrev AllGrown : ℕ → List Listed → List Listed → Type 0
+abbrev pub AllGrown : ℕ → List Listed → List Listed → Type 0
 AllGrown rows old new = (k : ℕ) (d : Listed) → k < length old → Grown rows (get_or old k d) (get_or new k d)
 
-sorts-grown : (rows : ℕ) (old new : List Listed) → length new ≡ length old → AllGrown rows old new → map (λ c. c.are_texts) new ≡ map (λ c. c.are_texts) old
+pub sorts-grown : (rows : ℕ) (old new : List Listed) → length new ≡ length old → AllGrown rows old new → map (λ c. c.are_texts) new ≡ map (λ c. c.are_texts) old
 sorts-grown rows [] [] same all = refl
 sorts-grown rows [] (n ∷ ns) same all = absurd (omega (arith, same))
 sorts-grown rows (o ∷ os) [] same all = absurd (omega (arith, same))
 sorts-grown rows (o ∷ os) (n ∷ ns) same all =
     ap₂ ◌∷◌ (ap (λ c. c.are_texts) (all 0 o (omega arith)).new_is) (sorts-grown rows os ns (omega (arith, same)) (λ k d lt. all (suc k) d (omega (arith, lt))))
 
-grown-count : (rows c : ℕ) (old new : Listed) → Grown rows old new → length old.values ≡ c → length new.values ≡ c + rows
+pub grown-count : (rows c : ℕ) (old new : Listed) → Grown rows old new → length old.values ≡ c → length new.values ≡ c + rows
 grown-count rows c old new g is = ap (λ l. length l.values) g.new_is ∙ length-append old.values g.values ∙ ap₂ (λ a b. a + b) is g.count
 
 length-fronted-up : (values : List Value) (rows : List (List Value)) → length rows ≤ length values → length (fronted values rows) ≡ length rows

@@ -1,9 +1,11 @@
 pub mod Blocks
+pub mod Kept
 pub mod Lines
 pub mod Names
 pub mod NumberBlocks
 pub mod Parts
 pub mod Places
+pub mod Plain
 pub mod Reading
 pub mod Rows
 pub mod Unicode

@@ -6,7 +6,6 @@ use Rattle.csv.specs.declared.parser.State.{State}
 use Rattle.csv.specs.declared.parser.State.TheVariants as st
 use Rattle.values.specs.Columns.{ListedColumns, rows_of}
 use Rattle.table_schema.specs.declared.field.Field.{Field}
-use Rattle.csv_row.specs.Columns.{OfSorts}
 use Rattle.csv_row.specs.InOrder.{after}
 use Rattle.csv_ingest.specs.Blocks.{rows_from}
 
@@ -53,10 +52,3 @@ pub record AreLines (fields : List Field) (header : List (List ℕ)) (before : �
       (n + columns.count) st.StartRecord text)
       ≡ after (rows_of columns) (rows_from (before + columns.count) fields header
       (records_from default_config n st.StartRecord (drop taken text)))
-
--- the same, of which there are at most so many, with a column for each field
-pub record ReadsLines (fields : List Field) (header : List (List ℕ)) (before room : ℕ)
-    (text : List ℕ) (columns : ListedColumns) (taken : ℕ) : Type 0 where
-  pub lines : AreLines fields header before text columns taken
-  pub sorts : OfSorts fields columns.columns
-  pub at_most : columns.count ≤ room

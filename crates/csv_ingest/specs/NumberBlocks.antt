@@ -1,10 +1,10 @@
 -- A text of whole numbers, whose rows are read block by block.
-use Rattle.std.specs.Prelude.{◌≡◌, ◌≢◌, ◌<◌, ◌≤◌, ◌+◌, ◌^◌, ℕ, List, [], length, false, ⊤, Result, Ok, Err, IfOk, IfErr}
+use Rattle.std.specs.Prelude.{◌≡◌, ◌≢◌, ◌<◌, ◌≤◌, ◌+◌, ◌^◌, ℕ, List, [], length, Bool, false, ⊤, Option, MatchOption, Result, Ok, Err, IfOk, IfErr, IfSome}
 use Rattle.std.specs.List.{All}
 use Rattle.csv.specs.Reading.{default_config, records_from}
 use Rattle.csv.specs.Records.{fields_of}
 use Rattle.csv.specs.declared.parser.State.TheVariants as st
-use Rattle.values.specs.Columns.{Listed}
+use Rattle.values.specs.Columns.{Listed, ListedColumns, rows_of}
 use Rattle.values.specs.declared.value.Value.{Value}
 use Rattle.table_schema.specs.declared.field.Field.{Field}
 use Rattle.table_schema.specs.declared.field.Schema.{Schema}
@@ -16,6 +16,8 @@ use Rattle.csv_row.specs.Row.{csv_limits}
 use Rattle.csv_row.specs.declared.fault.CsvFault.{CsvFault}
 use Rattle.csv_row.specs.declared.fault.CsvFault.TheVariants.{NoMemory}
 use Rattle.csv_ingest.specs.Blocks.{RowsOrFault, rows_from, text_limit}
+use Rattle.csv_row.specs.InOrder.{after}
+use Rattle.csv_ingest.specs.Kept.{AreKept}
 use Rattle.csv_ingest.specs.Lines.{AtLineEnd}
 use Rattle.csv_ingest.specs.Names.{number_name}
 use Rattle.csv_ingest.specs.Reading.{Reads, TextReader, records_left}
@@ -80,6 +82,30 @@ pub record AreNumbers (fields : List Field) (columns : List Listed) : Type 0 whe
 pub record GoesOn (old new : NumberBlocks) : Type 0 where
   pub blocks : IsNumberBlocks new
   pub header : new.header ≡ old.header
+
+-- the rows of some columns come next in the text, and then what is left gives more; in columns that
+-- are not kept there may be other values
+pub record GivesBlock (kept : List Bool) (new : NumberBlocks) (whole : RowsOrFault)
+    (columns : ListedColumns) : Type 0 where
+  pub read : ListedColumns
+  pub same : AreKept kept read columns
+  pub more : RowsOrFault
+  pub gives : Gives new more
+  pub is : whole ≡ after (rows_of read) more
+
+-- the next rows are given, if any are left, or else the text's fault
+pub record GivesNext (kept : List Bool) (old new : NumberBlocks)
+    (result : Result (Option ListedColumns) CsvFault) : Type 0 where
+  pub goes_on : GoesOn old new
+  pub ok : IfOk result (λ block. (whole : RowsOrFault) → Gives old whole
+      → MatchOption block (whole ≡ Ok []) (GivesBlock kept new whole))
+  pub numbers : IfOk result (λ block. IfSome block (λ columns.
+      AreNumbers old.header.fields columns.columns))
+  pub fewer : IfOk result (λ block. IfSome block (λ _. new.left < old.left))
+  pub count : IfOk result (λ block. IfSome block (λ columns.
+      columns.count + new.left ≤ old.left))
+  pub err : IfErr result (λ fault. fault ≢ NoMemory → (whole : RowsOrFault) → Gives old whole
+      → whole ≡ Err fault)
 
 -- a text of these records is begun, or refused for the first fault that it has, unless memory ran
 -- out

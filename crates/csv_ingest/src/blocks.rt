@@ -8,8 +8,9 @@ ghost use Rattle.csv_ingest.specs.Blocks.{IsFullBlock, IsLastBlock, RowsOrFault,
 ghost use Rattle.csv_row.specs.InOrder.{after};
 ghost use Rattle.csv_row.specs.Columns.{OfSorts};
 ghost use Rattle.csv_ingest.specs.Names.{number_name};
-ghost use Rattle.csv_ingest.specs.Lines.{IsFeedAfter, ReadsLines, IsHeaderEnd, is_bare};
-ghost use Rattle.csv_ingest.specs.NumberBlocks.{AreNumbers, Begins, Gives, GoesOn, IsByRecords, IsNumberBlocks, IsNumberHeader};
+ghost use Rattle.csv_ingest.specs.Kept.{ReadsLines};
+ghost use Rattle.csv_ingest.specs.Lines.{IsFeedAfter, IsHeaderEnd, is_bare};
+ghost use Rattle.csv_ingest.specs.NumberBlocks.{AreNumbers, Begins, Gives, GivesBlock, GivesNext, GoesOn, IsByRecords, IsNumberBlocks, IsNumberHeader};
 ghost use Rattle.csv_ingest.specs.Reading.{Reads, records_left};
 ghost use Rattle.csv_row.specs.Row.{csv_limits};
 ghost use Rattle.csv_ingest.specs.Rows.{header_of, number_rows_in, records_of, rows_of, with_schema};
@@ -133,17 +134,18 @@ impl NumberHeader {
         &self,
         alloc: Global,
         text: &[u8],
+        kept: &[bool],
         before: usize,
         room: usize,
     ) -> Result<Lines, AllocError>
         requires { IsNumberHeader self.now }
         ensures { IfOk result (λ l. ReadsLines self.now.fields
-            (fields_of self.now.names) before room
+            (fields_of self.now.names) kept.now before room
             text.now l.columns l.taken) }
     {
         let names = names_in(alloc, &self.names)?;
         let layout = Layout::new(alloc, self.fields.as_slice(), &names)?;
-        read_lines(alloc, text, &layout, before, room)
+        read_lines(alloc, text, &layout, kept, before, room)
     }
 }
 
@@ -230,14 +232,17 @@ pub fn number_blocks<'a>(alloc: Global, bytes: &'a [u8]) -> Result<NumberBlocks<
 impl<'a> NumberBlocks<'a> {
     // The rows of the next lines, where the text is read by lines and the next one is of whole
     // numbers without quotes. From the first other line on, records are read.
-    fn next_lines(&mut self, alloc: Global, room: usize) -> Result<Option<Columns>, CsvFault>
+    fn next_lines(
+        &mut self,
+        alloc: Global,
+        kept: &[bool],
+        room: usize,
+    ) -> Result<Option<Columns>, CsvFault>
         requires is { IsNumberBlocks self.old }
         requires room { room ≤ self.old.left }
         ensures goes_on { GoesOn self.old self.new }
         ensures ok { IfOk result (λ block. (whole : RowsOrFault) → Gives self.old whole
-            → MatchOption block (Gives self.new whole) (λ columns. (more : RowsOrFault)
-            × Gives self.new more
-            × (whole ≡ after (rows_of_columns columns) more))) }
+            → MatchOption block (Gives self.new whole) (GivesBlock kept.now self.new whole)) }
         ensures none { IfOk result (λ block. block ≡ None → IsByRecords self.new.source
             × (self.new.left ≡ self.old.left)) }
         ensures numbers { IfOk result (λ block. IfSome block (λ columns.
@@ -250,7 +255,9 @@ impl<'a> NumberBlocks<'a> {
             return Ok(None);
         };
         let text = *text;
-        let Lines { columns, taken } = self.header.next_lines(alloc, text, self.before, room)?;
+        let Lines { columns, taken } = self
+            .header
+            .next_lines(alloc, text, kept, self.before, room)?;
         let count = columns.len();
         if count == 0 {
             self.source = Source::Records(text_reader(alloc, text));
@@ -311,11 +318,20 @@ impl<'a> NumberBlocks<'a> {
         ensures err { IfErr result (λ fault. fault ≢ CsvFault.NoMemory → (whole : RowsOrFault)
             → Gives self.old whole → whole ≡ Err fault) }
     {
+        self.next_kept(alloc, &[])
+    }
+
+    /// The same, where only some columns are wanted: a column whose mark is false may have other
+    /// numbers. One beyond the marks is kept.
+    pub fn next_kept(&mut self, alloc: Global, kept: &[bool]) -> Result<Option<Columns>, CsvFault>
+        requires { IsNumberBlocks self.old }
+        ensures { GivesNext kept.now self.old self.new result }
+    {
         let room = self.left.min(BLOCK_ROWS);
         if room == 0 {
             return Ok(None);
         }
-        if let Some(columns) = self.next_lines(alloc, room)? {
+        if let Some(columns) = self.next_lines(alloc, kept, room)? {
             return Ok(Some(columns));
         }
         match self.next_records(alloc, room) {

@@ -4,9 +4,11 @@ ghost use Rattle.std.specs.List.{All};
 ghost use Rattle.values.specs.Columns.{Counts};
 ghost use Rattle.csv_row.specs.Columns.{OfSorts};
 ghost use Rattle.csv_row.specs.Layouts.{IsLayout, header_of};
-ghost use Rattle.csv_ingest.specs.Lines.{ReadsLines, StartsCell};
+ghost use Rattle.csv_ingest.specs.Kept.{ReadsLines};
+ghost use Rattle.csv_ingest.specs.Lines.{StartsCell};
 ghost use Rattle.csv_ingest.specs.Parts.{AddsLines, AreMarks};
 
+use crate::kept_columns::push_kept;
 use crate::marks::push_separators;
 use crate::part_columns::push_part;
 use crate::parts::part_of;
@@ -74,24 +76,25 @@ pub struct Lines {
 }
 
 /// The rows of the plain lines at the start of a text, after `before` others: those of its next
-/// part, and at most as many as there is room for.
+/// part, and at most as many as there is room for. Columns that are not kept may have other values.
 pub fn read_lines(
     alloc: Global,
     text: &[u8],
     layout: &Layout,
+    kept: &[bool],
     before: usize,
     room: usize,
 ) -> Result<Lines, AllocError>
     requires { IsLayout layout.now }
-    ensures { IfOk result (λ l. ReadsLines layout.now.fields.now (header_of layout.now) before room
-        text.now l.columns l.taken) }
+    ensures { IfOk result (λ l. ReadsLines layout.now.fields.now (header_of layout.now) kept.now
+        before room text.now l.columns l.taken) }
 {
     let room = (layout.most as usize).saturating_sub(before).min(room);
     let mut places = Vec::with_capacity(alloc, PART_PLACES)?;
     mark_part(text, &mut places)?;
     if let Some(part) = part_of(text, &places, layout.names.len(), room) {
         let mut columns = empty_columns(alloc, layout.fields, part.rows)?;
-        if push_part(part, layout, &mut columns)? {
+        if push_kept(part, layout, kept, &mut columns)? {
             let columns = Columns::new(columns, part.rows);
             return Ok(Lines {
                 columns,

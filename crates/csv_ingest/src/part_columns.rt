@@ -56,8 +56,8 @@ fn push_fields(
     Ok(true)
 }
 
-// Adds the values of a field.
-fn push_field(
+/// Adds the values of a field.
+pub fn push_field(
     part: Part<'_>,
     field: &Field,
     place: Option<usize>,

@@ -2,9 +2,11 @@
 ghost use Rattle.std.specs.Prelude.{◌≡◌, ◌<◌, ◌≤◌, ◌+◌, ◌-◌, ◌*◌, ◌⊎◌, ℕ, true, length, take, drop, get_or, IfSome, Ok};
 ghost use Rattle.data_types.specs.Numbers.{whole_of};
 ghost use Rattle.csv_ingest.specs.Parts.{AreMarks, IsLineAt, IsPart, cell_at, mark_at};
+ghost use Rattle.csv_ingest.specs.Plain.{HasPlainCells};
 
 use crate::digits::whole_between;
 use crate::lines::is_blank;
+use crate::plain::{are_plain, are_short};
 use crate::records::from_place;
 use data_types::FieldKind;
 
@@ -82,6 +84,15 @@ impl<'a> Part<'a> {
             self.places[i] as usize + 1,
             self.places[i + 1] as usize,
         )
+    }
+
+    /// Whether each cell is seen to be empty, or a `-` or none and few digits.
+    pub fn is_plain(self) -> bool
+        requires is { IsPart self }
+        requires some { 0 < self.rows }
+        ensures { result ≡ true → HasPlainCells self.entry }
+    {
+        are_short(self.places, self.last) && are_plain(self.text, self.len())
     }
 
     /// How much of the text is before the end of the last line.

@@ -28,24 +28,29 @@ returns-clause-ok c = λ whole h.
     let names : List (List ℕ) = fields_of me.header.names in
     let columns = c.in_ok-columns.field-0.columns in
     let taken = c.in_ok-columns.field-0.taken in
+    let e = c.in_ok-columns.ensures in
     let count : columns.count ≡ c.len-count.result = sym c.len-count.ensures.count in
-    let le : columns.count ≤ me.left = omega (arith, c.in_ok-columns.ensures.at_most, c.requires.room) in
+    let le : columns.count ≤ me.left = omega (arith, e.at_most, c.requires.room) in
     let some : 0 < me.left = omega (arith, c.if-count-eq0.false, count, le) in
     let l = by-lines fields names me.before me.left whole me.source c.in-Lines.text c.in-Lines.is (h.some some) in
-    let lines = c.in_ok-columns.ensures.lines in
+    let lines = e.lines in
     let rest : List ℕ = drop taken c.in-Lines.text.now in
-    let n : ℕ = c.len-count.result in (
-      rows_from (me.before + n) fields names (records_from default_config (me.left - n) st.StartRecord rest),
-      record {
+    let n : ℕ = c.len-count.result in
+    let same : e.read.count ≡ n = sym e.same.count ∙ count in
+    record {
+      read = e.read;
+      same = e.same;
+      more = rows_from (me.before + n) fields names (records_from default_config (me.left - n) st.StartRecord rest);
+      gives = record {
         none = λ z. no-lines fields names (me.before + n) (me.left - n) rest z;
         some = λ _. record {
           at_end = subst AtLineEnd (sym c.from_place.ensures) (lines.at_end l.at_end);
           is = ap (λ t. rows_from (me.before + n) fields names (records_from default_config (me.left - n) st.StartRecord t)) (sym c.from_place.ensures);
         };
-      },
-      lines-next fields names me.before me.left whole c.in-Lines.text.now columns taken l lines le
-          ∙ ap (λ k. after (rows_of_columns columns) (rows_from (me.before + k) fields names (records_from default_config (me.left - k) st.StartRecord rest))) count,
-    )
+      };
+      is = lines-next fields names me.before me.left whole c.in-Lines.text.now e.read taken l lines (omega (arith, le, e.same.count))
+          ∙ ap (λ k. after (rows_of_columns e.read) (rows_from (me.before + k) fields names (records_from default_config (me.left - k) st.StartRecord rest))) same;
+    }
 
 pub returns-clause-numbers : goal.returns-clause-numbers
 returns-clause-numbers c =
