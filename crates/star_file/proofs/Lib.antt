@@ -6,3 +6,4 @@ pub mod RangeSteps
 pub mod DocLaws
 pub mod TreeDocs
 pub mod TreeLaws
+pub mod Ranges

@@ -22,4 +22,4 @@ pub use reading::read_docs;
 pub use rules::{MOST_TREE_BYTES, few_bytes};
 pub use star_tree::Node;
 pub use tree::{Nodes, StarTree};
-pub use writing::{write_docs, write_nodes};
+pub use writing::{doc_size, write_docs, write_docs_range, write_nodes};

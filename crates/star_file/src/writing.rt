@@ -1,12 +1,14 @@
 //! Star-trees are written.
 
-ghost use Rattle.std.specs.Prelude.{◌≡◌, ◌<◌, ◌≤◌, ◌^◌, ◌++◌, OnOk, OnErr, length};
+ghost use Rattle.std.specs.Prelude.{◌≡◌, ◌<◌, ◌≤◌, ◌^◌, ◌*◌, ◌++◌, OnOk, OnErr, length};
 ghost use Rattle.state_columns.specs.Docs.{doc_at};
+ghost use Rattle.state_columns.specs.Region.{range};
 ghost use Rattle.star_file.specs.Bytes.{words, node_words, nodes_section, state_bytes};
 ghost use Rattle.star_file.specs.Bytes.{doc_bytes, Adds};
 ghost use Rattle.star_file.specs.Reading.{IsWritable};
 
 use crate::NoMemory;
+use crate::rules::widths;
 use crate::tree::StarTree;
 use crate::words::{push_state, push_word, push_words};
 use star_table::StarTable;
@@ -64,21 +66,51 @@ pub fn write_docs(tree: &StarTree, out: &mut Vec<u8>) -> Result<(), NoMemory>
     ensures ok { OnOk result (out.new.items ≡ out.old.items ++ doc_bytes tree.now.docs.docs) }
     ensures err { OnErr result (out.new.items ≡ out.old.items) }
 {
+    write_docs_range(tree, 0, tree.docs.len() as u32, out)
+}
+
+/// Appends those from one number up to another.
+pub fn write_docs_range(
+    tree: &StarTree,
+    from: u32,
+    to: u32,
+    out: &mut Vec<u8>,
+) -> Result<(), NoMemory>
+    requires order { from ≤ to }
+    requires there { to ≤ length tree.now.docs.docs }
+    requires kinds { length tree.now.docs.kinds ≤ 16 }
+    ensures ok { OnOk result (out.new.items
+        ≡ out.old.items ++ doc_bytes (range from to tree.now.docs.docs)) }
+    ensures err { OnErr result (out.new.items ≡ out.old.items) }
+{
     let start = out.len();
-    if let Err(fault) = push_docs(&tree.docs, out) {
+    if let Err(fault) = push_docs(&tree.docs, from, to, out) {
         out.truncate(start);
         return Err(fault);
     }
     Ok(())
 }
 
-fn push_docs(docs: &StarTable, out: &mut Vec<u8>) -> Result<(), NoMemory>
-    requires at_most { length docs.now.docs < 2 ^ 32 }
+/// How many bytes each document of a tree takes.
+pub fn doc_size(tree: &StarTree) -> u32
+    requires { length tree.now.docs.kinds ≤ 16 }
+    ensures each { length (doc_bytes tree.now.docs.docs) ≡ length tree.now.docs.docs * result }
+    ensures bound { result ≤ 1404 }
+{
+    let docs = &tree.docs;
+    let _count = docs.len();
+    4 * docs.dims() as u32 + widths(docs.kinds().as_slice())
+}
+
+fn push_docs(docs: &StarTable, from: u32, to: u32, out: &mut Vec<u8>) -> Result<(), NoMemory>
+    requires order { from ≤ to }
+    requires there { to ≤ length docs.now.docs }
     requires kinds { length docs.now.kinds ≤ 16 }
-    ensures { Adds (doc_bytes docs.now.docs)
+    ensures { Adds (doc_bytes (range from to docs.now.docs))
         out.old.items out.new.items result }
 {
-    for at in 0..docs.len() as u32 {
+    let _count = docs.len();
+    for at in from..to {
         push_doc(docs, at, out)?;
     }
     Ok(())
