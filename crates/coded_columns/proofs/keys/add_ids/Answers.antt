@@ -1,4 +1,4 @@
-use Rattle.std.proofs.Common.{◌<◌, ◌-◌, length, get_or, arith}
+use Rattle.std.proofs.Common.{◌<◌, ◌-◌, length, arith}
 use Rattle.coded_columns.proofs.keys.add_ids.Goals as goal
 
 pub between-requires : goal.between-requires
