@@ -1,10 +1,7 @@
 -- The values of a segment's rows, column by column.
-use Rattle.std.proofs.Common.{◌≡◌, ◌∙◌, ◌<◌, ◌≤◌, ◌+◌, ◌∷◌, ◌||◌, [], ℕ, Bool, true, false, pos, zero, suc, Option, Some, None, List, length, map, get_or, set, replicate, slice_get, refl, ap, sym, subst, arith, inl, inr, cond, ◌++◌, append-nil, MatchOption}
-use Rattle.std.proofs.lemmas.Bool.{cases_lt}
-use Rattle.std.proofs.lemmas.List.{get_or-set_other, get_or-set_same}
+use Rattle.std.proofs.Common.{◌≡◌, ◌∙◌, ◌<◌, ◌∷◌, [], ℕ, Bool, true, false, pos, zero, suc, Option, Some, None, List, length, map, get_or, replicate, slice_get, refl, ap, sym, subst, arith, cond, ◌++◌, append-nil, MatchOption}
 use Rattle.std.proofs.lemmas.List.{length-map, length-replicate}
 use Rattle.std.proofs.lemmas.List.Elements.{All-head, All-tail, All-cons, All-nil, All-push}
-use Rattle.std.proofs.Math.ListN.{length-set}
 use Rattle.std.specs.List.{All}
 use Rattle.values.specs.declared.value.Value.{Value}
 use Rattle.values.specs.declared.value.Value.TheVariants.{Whole}
@@ -16,7 +13,7 @@ use Rattle.value_ids.specs.Ids.{has_id, satisfies}
 use Rattle.table_schema.specs.Conditions.{cell}
 use Rattle.coded_columns.specs.declared.coded.Coded.{Coded}
 use Rattle.coded_columns.specs.declared.coded.SegmentColumns.{SegmentColumns}
-use Rattle.coded_columns.specs.Coded.{Widens, IsOfField, IsUnread, column_of, listed, table_of, values_of}
+use Rattle.coded_columns.specs.Coded.{IsOfField, IsUnread, column_of, listed, table_of, values_of}
 use Rattle.coded_columns.specs.IdColumns.{IsCoded}
 
 length-values : (count : ℕ) (column : Option Coded) → IsCoded count column → length (values_of count column) ≡ count
@@ -66,34 +63,6 @@ looked-by segment field (Some column) is coded = record {
 -- the column of a field has its values
 pub looked : (segment : SegmentColumns) (field : ℕ) → MatchOption (column_of segment field) (IsUnread segment field) (IsOfField segment field)
 looked segment field = looked-by segment field (column_of segment field) refl (coded-at segment.count segment.columns.now field segment.coded.each)
-
--- ---- marks that are added
-
--- marks were added below a place, and nothing was changed from there on
-pub record WidensBelow (n : ℕ) (holds : ℕ → Bool) (old new : List Bool) : Type 0 where
-  pub count : length new ≡ length old
-  pub below : (at : ℕ) → at < n → get_or new at false ≡ (get_or old at false || holds at)
-  pub rest : (at : ℕ) → n ≤ at → get_or new at false ≡ get_or old at false
-
-pub widens-none : (holds : ℕ → Bool) (old : List Bool) → WidensBelow 0 holds old old
-widens-none holds old = record { count = refl; below = λ at lt. absurd (omega (arith, lt)); rest = λ at le. refl }
-
-pub widens-set : (n : ℕ) (holds : ℕ → Bool) (old new : List Bool) (b : Bool) → n < length old → b ≡ (get_or new n false || holds n) → WidensBelow n holds old new → WidensBelow (n + 1) holds old (set new n b)
-widens-set n holds old new b lt is k =
-    let within : n < length new = omega (arith, lt, k.count) in
-    record {
-      count = length-set new n b ∙ k.count;
-      below = λ at less. elim (cases_lt at n) [
-        | inl below ↦ get_or-set_other new n at b false (λ e. omega (arith, e, below)) ∙ k.below at below
-        | inr le ↦
-            let same : at ≡ n = omega (arith, le, less) in
-            ap (λ i. get_or (set new n b) i false) same ∙ get_or-set_same new n b false within ∙ is ∙ ap (λ x. x || holds n) (k.rest n (omega arith)) ∙ ap (λ i. get_or old i false || holds i) (sym same)
-      ];
-      rest = λ at le. get_or-set_other new n at b false (λ e. omega (arith, e, le)) ∙ k.rest at (omega (arith, le));
-    }
-
-pub widens-all : (n : ℕ) (holds : ℕ → Bool) (old new : List Bool) → length old ≤ n → WidensBelow n holds old new → Widens holds old new
-widens-all n holds old new le k = λ at lt. k.below at (omega (arith, lt, le))
 
 -- ---- a test by ids
 

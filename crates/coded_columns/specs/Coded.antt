@@ -1,5 +1,5 @@
 -- The columns of a segment by the ids of their values, and the rows that they are.
-use Rattle.std.specs.Prelude.{◌≡◌, ◌<◌, ◌||◌, ℕ, Bool, false, pos, List, map, length, get_or, replicate, Option, Some, None}
+use Rattle.std.specs.Prelude.{◌≡◌, ◌<◌, ℕ, pos, List, map, get_or, replicate, Option, Some, None}
 use Rattle.std.specs.List.{list_any}
 use Rattle.values.specs.declared.value.Value.{Value}
 use Rattle.values.specs.declared.value.Value.TheVariants.{Whole}
@@ -49,8 +49,3 @@ pub record IsOfField (segment : SegmentColumns) (field : ℕ) (column : Coded) :
 abbrev pub IsUnread : SegmentColumns → ℕ → Type 0
 IsUnread segment field = (at : ℕ) → cell (row_of (table_of segment).columns at) field
     ≡ Whole (pos 0)
-
--- to the marks those come where it holds
-abbrev pub Widens : (ℕ → Bool) → List Bool → List Bool → Type 0
-Widens holds old new = (at : ℕ) → at < length old → get_or new at false
-    ≡ (get_or old at false || holds at)

@@ -141,6 +141,14 @@ fn set_firsts(firsts: &mut [u32], keys: &[u32], placed: PlacedRows<'_, '_>)
         placed.entry.places.now k (get_or firsts.old k 0) (get_or firsts.new k 0) }
 {
     let places = placed.places;
+    if keys.is_empty() {
+        return;
+    }
+    if firsts.len() == 1 {
+        // No key is looked at.
+        firsts[0] = places[keys.len() - 1] + 1;
+        return;
+    }
     for at in 0..keys.len() {
         firsts[keys[at] as usize] = places[at] + 1;
     }

@@ -1,13 +1,16 @@
 //! The keys of rows: the ids of a row in the group columns as one number.
 
-ghost use Rattle.std.specs.Prelude.{◌≡◌, ◌≤◌, ◌<◌, ◌+◌, ◌*◌, ◌++◌, ◌∷◌, [], ℕ, List, OnOk, get_or, length, map, take};
+ghost use Rattle.std.specs.Prelude.{◌≡◌, ◌≤◌, ◌<◌, ◌+◌, ◌*◌, ◌++◌, ◌∷◌, ◌^◌, [], ℕ, List, OnOk, get_or, length, map, take};
+ghost use Rattle.std.specs.Bool.{OnTrue};
 ghost use Rattle.std.specs.Option.{IfSome};
 ghost use Rattle.value_ids.specs.Coding.{AreBelow};
 ghost use Rattle.coded_columns.specs.Coded.{column_of, most_rows};
+ghost use Rattle.coded_columns.specs.Ids.{seen_ids};
 ghost use Rattle.coded_columns.specs.Keys.{AreKeys, ArePackable, key_at, packed_with};
+ghost use Rattle.coded_columns.specs.Packing.{AreAfter, PacksIds, TakesIds};
 
 use crate::coded::SegmentColumns;
-use crate::ids::Ids;
+use crate::ids::{IdSlices, Ids};
 use crate::placed_rows::PlacedRows;
 use values::NoMemory;
 
@@ -106,6 +109,83 @@ fn add_ids(keys: &mut [u32], width: u32, ids: &Ids, places: &[u32])
     ensures { (k : ℕ) → k < length places.now → get_or keys.new k 0
         ≡ get_or keys.old k 0 * width + get_or ids.now (get_or places.now k 0) 0 }
 {
+    match first_of(places) {
+        Some(first) => add_slices(keys, width, ids.between(first as usize, places.len())),
+        None => add_placed(keys, width, ids, places),
+    }
+}
+
+// The first of some places, if each of the others follows the one before.
+fn first_of(places: &[u32]) -> Option<u32>
+    ensures some { IfSome result (λ first. 0 < length places.now) }
+    ensures each { IfSome result (AreAfter places.now) }
+{
+    let count = places.len();
+    if count == 0 || places[count - 1] as usize + 1 != places[0] as usize + count {
+        return None;
+    }
+    let first = places[0];
+    if follow(places, first) {
+        return Some(first);
+    }
+    None
+}
+
+// Whether places are those from one on. It looks at each, so that it is done many at a time.
+fn follow(places: &[u32], first: u32) -> bool
+    requires { first + length places.now ≤ 2 ^ 32 }
+    ensures { OnTrue result (AreAfter places.now first) }
+{
+    let mut follow = true;
+    for k in 0..places.len() {
+        follow &= places[k] == first + k as u32;
+    }
+    follow
+}
+
+// Packs the ids of rows that lie one after the other after their keys.
+fn add_slices(keys: &mut [u32], width: u32, ids: IdSlices<'_>)
+    requires same { length keys.old ≡ length (seen_ids ids) }
+    requires fits { TakesIds width keys.old (seen_ids ids) }
+    ensures { PacksIds width (seen_ids ids.entry) keys.old keys.new }
+{
+    match ids {
+        IdSlices::Narrow(ids) => add_narrow(keys, width, ids),
+        IdSlices::Wide(ids) => add_wide(keys, width, ids),
+    }
+}
+
+// The same where an id takes two bytes.
+fn add_narrow(keys: &mut [u32], width: u32, ids: &[u16])
+    requires same { length keys.old ≡ length ids.now }
+    requires fits { TakesIds width keys.old ids.now }
+    ensures { PacksIds width ids.now keys.old keys.new }
+{
+    for k in 0..keys.len() {
+        keys[k] = with_id(keys[k], width, u32::from(ids[k]));
+    }
+}
+
+// The same where an id takes four bytes.
+fn add_wide(keys: &mut [u32], width: u32, ids: &[u32])
+    requires same { length keys.old ≡ length ids.now }
+    requires fits { TakesIds width keys.old ids.now }
+    ensures { PacksIds width ids.now keys.old keys.new }
+{
+    for k in 0..keys.len() {
+        keys[k] = with_id(keys[k], width, ids[k]);
+    }
+}
+
+// Packs the ids of rows in any places after their keys.
+fn add_placed(keys: &mut [u32], width: u32, ids: &Ids, places: &[u32])
+    requires same { length keys.old ≡ length places.now }
+    requires rows { AreBelow (length ids.now) places.now }
+    requires fits { (k : ℕ) → k < length places.now
+        → get_or keys.old k 0 * width + get_or ids.now (get_or places.now k 0) 0 < most_rows }
+    ensures { (k : ℕ) → k < length places.now → get_or keys.new k 0
+        ≡ get_or keys.old k 0 * width + get_or ids.now (get_or places.now k 0) 0 }
+{
     let slices = ids.slices();
     for k in 0..places.len() {
         let id = slices.at(places[k] as usize);
@@ -119,5 +199,5 @@ fn with_id(key: u32, width: u32, id: u32) -> u32
     requires { key * width + id < most_rows }
     ensures { result ≡ key * width + id }
 {
-    (key as usize * width as usize + id as usize) as u32
+    key * width + id
 }

@@ -184,3 +184,10 @@ none-left many holds other words none are = record {
         zero-bit ∙ sym (off (nat_lt (64 * j + i) many) (holds (64 * j + i)) (other (64 * j + i)) (sym ((are.each j lt).each i below) ∙ zero-bit));
   };
 }
+
+-- the marks of one more test in a word
+pub either-word : (many : ℕ) (holds other : ℕ → Bool) (from word more : ℕ) → HasMarks (is_marked many holds) from word → HasMarks (is_marked many other) from more → HasMarks (is_marked many (λ row. holds row || other row)) from (bit_or word more)
+either-word many holds other from word more a b =
+    has-same (λ row. is_marked many holds row || is_marked many other row) (is_marked many (λ row. holds row || other row)) from _
+    (λ row. marked-either (nat_lt row many) (holds row) (other row))
+    (either-marks (is_marked many holds) (is_marked many other) from word more a b)

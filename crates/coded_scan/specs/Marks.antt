@@ -1,6 +1,6 @@
 -- Marks of the rows of a block, a bit for each, of 64 rows a word, and the places of the rows that
 -- are marked.
-use Rattle.std.specs.Prelude.{◌≡◌, ◌≤◌, ◌<◌, ◌+◌, ◌*◌, ◌^◌, ◌/◌, ◌%◌, ◌&&◌, ◌==◌, ℕ, zero, suc, Bool, List, [], ◌∷◌, ◌++◌, cond, length, get_or, nat_le, nat_lt}
+use Rattle.std.specs.Prelude.{◌≡◌, ◌≤◌, ◌<◌, ◌+◌, ◌*◌, ◌^◌, ◌/◌, ◌%◌, ◌&&◌, ◌||◌, ◌==◌, ℕ, zero, suc, Bool, List, [], ◌∷◌, ◌++◌, cond, length, get_or, take, nat_le, nat_lt}
 use Rattle.std.specs.Int.{bit_at}
 use Rattle.value_ids.specs.Ids.{has_id}
 use Rattle.coded_scan.specs.declared.id_run.IdRun.{IdRun}
@@ -9,10 +9,12 @@ use Rattle.coded_scan.specs.declared.id_run.IdRun.{IdRun}
 abbrev pub is_between : ℕ → ℕ → ℕ → Bool
 is_between first last id = nat_le first id && nat_le id last
 
--- the ids are those of a run
-pub record IsRunOf (ids : List ℕ) (run : IdRun) : Type 0 where
+-- from one of some ids on they are those of a run, each of which follows the one before
+pub record IsRunAt (ids : List ℕ) (start : ℕ) (run : IdRun) : Type 0 where
+  pub within : start + run.more < length ids
   pub fits : run.first + run.more < 2 ^ 32
-  pub each : (id : ℕ) → has_id ids id ≡ is_between run.first (run.first + run.more) id
+  pub each : (id : ℕ) → has_id (take (start + run.more + 1) ids) id
+      ≡ (has_id (take start ids) id || is_between run.first (run.first + run.more) id)
 
 -- a row is one of so many of which it holds
 abbrev pub is_marked : ℕ → (ℕ → Bool) → ℕ → Bool

@@ -1,12 +1,13 @@
 //! Marks of the rows of a block.
 
 ghost use Rattle.std.specs.Prelude.{◌≡◌, ◌<◌, ◌≤◌, ◌+◌, ◌-◌, ◌*◌, ◌^◌, ◌&&◌, ◌||◌, ℕ, Bool, false, cond, length, get_or, nat_le};
+ghost use Rattle.std.specs.Bool.{OnTrue};
 ghost use Rattle.std.specs.Int.{bit_at};
-ghost use Rattle.value_ids.specs.Ids.{has_id};
+ghost use Rattle.value_ids.specs.Ids.{IsIdSet, has_id};
 ghost use Rattle.coded_columns.specs.Ids.{seen_ids};
 ghost use Rattle.coded_scan.specs.Marks.{AreMarks, HasMarks, HasWords, IsWithMark, is_between, is_marked};
 
-use crate::id_run::run_of;
+use crate::id_run::run_at;
 use coded_columns::IdSlices;
 use std::simd::prelude::*;
 use value_ids::IdSet;
@@ -14,19 +15,42 @@ use value_ids::IdSet;
 /// An id in two bytes is less.
 const MOST_NARROW: u32 = 65_536;
 
-/// Marks the rows whose id is in a set.
+/// A set of so many runs is marked run by run.
+const MOST_RUNS: usize = 8;
+
+/// Marks the rows whose id is in a set: run by run where it has few, else row by row.
 pub fn mark_ids(ids: IdSlices<'_>, matching: &IdSet, words: &mut [u64])
     requires { HasWords (length (seen_ids ids)) words.old }
     ensures { AreMarks (length (seen_ids ids.entry)) (λ row. has_id matching.now
         (get_or (seen_ids ids.entry) row 0)) words.new }
 {
-    match run_of(matching.as_slice()) {
-        Some(run) => mark_run(ids, run.first, run.more, words),
-        None => mark_set(ids, matching, words),
+    if mark_runs(ids, matching.as_slice(), words) {
+        return;
     }
+    mark_set(ids, matching, words);
 }
 
-// The same where the ids of the set are no run.
+// Marks the rows whose id is in a set of few runs, and tells whether these are all.
+fn mark_runs(ids: IdSlices<'_>, matching: &[u32], words: &mut [u64]) -> bool
+    requires words { HasWords (length (seen_ids ids)) words.old }
+    requires ascends { IsIdSet matching.now }
+    ensures { OnTrue result (AreMarks (length (seen_ids ids.entry)) (λ row. has_id matching.now
+        (get_or (seen_ids ids.entry) row 0)) words.new) }
+{
+    mark_same(ids.count(), false, words);
+    let mut start = 0;
+    for _ in 0..MOST_RUNS {
+        if start == matching.len() {
+            return true;
+        }
+        let run = run_at(matching, start);
+        add_run(ids, run.first, run.more, words);
+        start += run.more as usize + 1;
+    }
+    start == matching.len()
+}
+
+// The same row by row.
 fn mark_set(ids: IdSlices<'_>, matching: &IdSet, words: &mut [u64])
     requires { HasWords (length (seen_ids ids)) words.old }
     ensures { AreMarks (length (seen_ids ids.entry)) (λ row. has_id matching.now
@@ -94,15 +118,16 @@ fn wide_word(ids: &[u32], from: usize, matching: &IdSet) -> u64
     word
 }
 
-// Marks the rows whose id is one of a run of so many ids after a first.
-fn mark_run(ids: IdSlices<'_>, first: u32, more: u32, words: &mut [u64])
+// Adds the marks of the rows whose id is one of a run of so many ids after a first.
+fn add_run(ids: IdSlices<'_>, first: u32, more: u32, words: &mut [u64])
     requires words { HasWords (length (seen_ids ids)) words.old }
     requires run { first + more < 2 ^ 32 }
-    ensures { AreMarks (length (seen_ids ids.entry)) (λ row. is_between first (first + more)
-        (get_or (seen_ids ids.entry) row 0)) words.new }
+    ensures { (holds : ℕ → Bool) → AreMarks (length (seen_ids ids.entry)) holds words.old
+        → AreMarks (length (seen_ids ids.entry)) (λ row. holds row
+        || is_between first (first + more) (get_or (seen_ids ids.entry) row 0)) words.new }
 {
     for at in 0..words.len() {
-        words[at] = run_word(ids, 64 * at, first, more);
+        words[at] |= run_word(ids, 64 * at, first, more);
     }
 }
 

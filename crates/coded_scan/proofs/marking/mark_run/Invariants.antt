@@ -1,7 +1,0 @@
-use Rattle.std.proofs.Common.{◌<◌, ◌+◌, ◌*◌, ℕ, get_or, length}
-use Rattle.coded_columns.specs.Ids.{seen_ids}
-use Rattle.coded_scan.specs.Marks.{HasMarks, is_between, is_marked}
-use Rattle.coded_scan.proofs.marking.mark_run.Given as goal
-
-abbrev pub invariant-loop-at : goal.invariant-loop-at
-invariant-loop-at l = (j : ℕ) → j < l.at → HasMarks (is_marked (length (seen_ids l.ids)) (λ row. is_between l.first (l.first + l.more) (get_or (seen_ids l.ids) row 0))) (64 * j) (get_or l.words j 0)
