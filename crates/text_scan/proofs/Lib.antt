@@ -1,3 +1,5 @@
+mod KeptRows
+mod NamedLemmas
 mod GroupLemmas
 mod ReplyLemmas
 mod RowsLemmas

@@ -1,10 +1,8 @@
 //! The groups of a query over the rows of a text, block after block.
 ghost use Rattle.std.specs.Prelude.{◌≡◌, ◌≤◌, ◌<◌, ◌+◌, true, List, [], Ok, IfOk, IfErr, IfSome, OnOk, MatchOption};
-ghost use Rattle.values.specs.Columns.{rows_of as rows_of_columns};
 ghost use Rattle.values.specs.declared.value.Value.{Value};
 ghost use Rattle.csv_ingest.specs.Blocks.{RowsOrFault};
-ghost use Rattle.csv_row.specs.InOrder.{after};
-ghost use Rattle.csv_ingest.specs.NumberBlocks.{Gives, IsNumberBlocks};
+ghost use Rattle.csv_ingest.specs.NumberBlocks.{Gives, GivesBlock, IsNumberBlocks};
 ghost use Rattle.group_table.specs.Kept.{IsNew, IsTableOf};
 ghost use Rattle.scan_engine.specs.Numbers.{AreNumbers};
 ghost use Rattle.text_scan.specs.Parts.{GroupsRows, IsText, IsTextFault};
@@ -12,6 +10,7 @@ ghost use Rattle.sql_reply.specs.Reply.{most_groups};
 ghost use Rattle.text_scan.specs.TextReply.{text_fault};
 
 use crate::ScanFault;
+use crate::named::named_columns;
 use csv_ingest::{CsvFault, NumberBlocks};
 use group_table::{GroupTable, TableFault};
 use scan_engine::add_block;
@@ -30,7 +29,8 @@ pub(crate) fn pass_over(alloc: Global, blocks: &mut NumberBlocks<'_>) -> Result<
     ensures err { IfErr result (λ fault. (whole : RowsOrFault) → Gives blocks.old whole →
         IsTextFault whole fault) }
 {
-    'rest: while let Some(_block) = next_rows(alloc, blocks)? {}
+    let none = vec![in alloc; false; MOST_COLUMNS as usize]?;
+    'rest: while let Some(_block) = next_rows(alloc, blocks, &none)? {}
     Ok(())
 }
 
@@ -52,7 +52,8 @@ pub(crate) fn group_text(
     ensures err { IfErr result (λ fault. (whole : RowsOrFault) → Gives blocks.old whole →
         IsTextFault whole fault) }
 {
-    'reading: while let Some(block) = next_rows(alloc, blocks)? {
+    let named = named_columns(alloc, bound, blocks.header.fields.len())?;
+    'reading: while let Some(block) = next_rows(alloc, blocks, &named)? {
         match add_block(alloc, bound, &block, table) {
             Ok(()) => {}
             Err(TableFault::TooManyGroups) => {
@@ -65,13 +66,16 @@ pub(crate) fn group_text(
     Ok(true)
 }
 
-// The next rows of a text, if any are left.
-fn next_rows(alloc: Global, blocks: &mut NumberBlocks<'_>) -> Result<Option<Columns>, ScanFault>
+// The next rows of a text, if any are left, with the numbers of the columns that are kept.
+fn next_rows(
+    alloc: Global,
+    blocks: &mut NumberBlocks<'_>,
+    kept: &[bool],
+) -> Result<Option<Columns>, ScanFault>
     requires { IsNumberBlocks blocks.old }
     ensures blocks { IsNumberBlocks blocks.new }
     ensures ok { IfOk result (λ block. (whole : RowsOrFault) → Gives blocks.old whole
-        → MatchOption block (whole ≡ Ok []) (λ columns. (more : RowsOrFault)
-        × Gives blocks.new more × (whole ≡ after (rows_of_columns columns) more))) }
+        → MatchOption block (whole ≡ Ok []) (GivesBlock kept.now blocks.new whole)) }
     ensures numbers { IfOk result (λ block. IfSome block AreNumbers) }
     ensures count { IfOk result (λ block. IfSome block (λ columns.
         columns.count + blocks.new.left ≤ blocks.old.left)) }
@@ -79,7 +83,7 @@ fn next_rows(alloc: Global, blocks: &mut NumberBlocks<'_>) -> Result<Option<Colu
     ensures err { IfErr result (λ fault. (whole : RowsOrFault) → Gives blocks.old whole →
         IsTextFault whole fault) }
 {
-    match blocks.next(alloc) {
+    match blocks.next_kept(alloc, kept) {
         Ok(block) => Ok(block),
         Err(fault) => Err(csv_fault(fault)),
     }

@@ -5,6 +5,7 @@ mod bound;
 mod fault;
 mod groups;
 mod laws;
+mod named;
 mod reply;
 
 pub use fault::ScanFault;

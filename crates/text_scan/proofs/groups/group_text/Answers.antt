@@ -1,4 +1,6 @@
-use Rattle.std.proofs.Common.{◌∙◌, ◌++◌, ◌+◌, ◌-◌, ◌≤◌, [], Err, sym, ap, subst, arith}
+use Rattle.std.proofs.Common.{◌≡◌, ◌∙◌, ◌<◌, ◌++◌, ◌+◌, ◌-◌, ◌≤◌, ℕ, Bool, List, [], Err, sym, ap, subst, arith}
+use Rattle.std.specs.FinMap as finite
+use Rattle.csv_ingest.specs.Kept.{AreKept}
 use Rattle.csv_row.specs.InOrder.{after}
 use Rattle.values.specs.Columns.{rows_of}
 use Rattle.group_table.specs.Kept.{groups_in}
@@ -8,7 +10,12 @@ use Rattle.scan_engine.specs.Scanned.{HaveAtMost}
 use Rattle.scan_engine.proofs.AddLemmas.{at_most_more}
 use Rattle.sql_reply.proofs.GroupLemmas.{none_fit}
 use Rattle.text_scan.proofs.GroupLemmas.{block_added, overfull_text}
-use Rattle.text_scan.proofs.TextLemmas.{after-more, after-none}
+use Rattle.values.specs.declared.value.Value.{Value}
+use Rattle.sql_reply.specs.Reply.{most_groups}
+use Rattle.text_scan.specs.Named.{AgreeAll, is_marked}
+use Rattle.text_scan.proofs.KeptRows.{kept-agree}
+use Rattle.text_scan.proofs.NamedLemmas.{agreeing-both, agreeing-same}
+use Rattle.text_scan.proofs.TextLemmas.{after-all, after-more, after-none}
 use Rattle.text_scan.proofs.groups.group_text.Goals as goal
 
 pub reading-init : goal.reading-init
@@ -17,7 +24,7 @@ reading-init c = record {
   table = c.requires.table.of_query;
   most = c.requires.table.most_is;
   fits = (0, subst (λ (g : Groups). HaveAtMost 0 g) (sym c.requires.table.groups_are) (none_fit (shape_of c.args.bound.now)), omega (arith, c.requires.text.at_most));
-  so_far = λ whole h. ([], whole, h, after-none whole, c.requires.table.groups_are);
+  so_far = λ whole h. ([], [], whole, h, after-none whole, tt, c.requires.table.groups_are);
 }
 
 pub add_block-requires-clause-room : goal.add_block-requires-clause-room
@@ -32,14 +39,20 @@ add_block-requires-clause-room c =
 
 pub returns-in-Err-TooManyGroups-clause-ok : goal.returns-in-Err-TooManyGroups-clause-ok
 returns-in-Err-TooManyGroups-clause-ok c = λ whole h.
-    let (done, more, left, is, so) = c.reading.invariant.so_far whole h in
-    let (rest, next, is_next) = rw c.in-Some.is at (c.in_ok-block.ensures.ok more left) in
-    let (tail, is_tail) = c.in_ok-pass_over-in-Err-TooManyGroups.ensures.ok rest next in
-    let rows = rows_of c.in-Some.block in (
-      (done ++ rows) ++ tail,
-      is ∙ ap (after done) is_next ∙ after-more done rows rest ∙ ap (after (done ++ rows)) is_tail,
-      overfull_text c.args.bound.now done rows tail c.reading.table c.reading.invariant.most
-          (c.add_block.ensures.full (c.in-Err-TooManyGroups.is ∙ ap Err c.in-Err-TooManyGroups.field-0-is)) so,
+    let (done, seen, more, left, is, agree, so) = c.reading.invariant.so_far whole h in
+    let g = rw c.in-Some.is at (c.in_ok-block.ensures.ok more left) in
+    let (tail, is_tail) = c.in_ok-pass_over-in-Err-TooManyGroups.ensures.ok g.more g.gives in
+    let marks = c.in_ok-named.named.items in
+    let named : ℕ → Bool = is_marked marks in
+    let query = c.args.bound.now in
+    let rows : List (List Value) = (done ++ rows_of g.read) ++ tail in
+    let others : List (List Value) = (seen ++ rows_of c.in-Some.block) ++ tail in
+    let same : AgreeAll named rows others =
+    agreeing-both named (done ++ rows_of g.read) (seen ++ rows_of c.in-Some.block) tail tail (agreeing-both named done seen (rows_of g.read) (rows_of c.in-Some.block) agree (kept-agree marks g.read c.in-Some.block (subst (λ (m : List Bool). AreKept m g.read c.in-Some.block) c.deref.ensures.value g.same))) (agreeing-same named tail) in
+    let over = overfull_text query seen (rows_of c.in-Some.block) tail c.reading.table c.reading.invariant.most (c.add_block.ensures.full (c.in-Err-TooManyGroups.is ∙ ap Err c.in-Err-TooManyGroups.field-0-is)) so in (
+      rows,
+      is ∙ ap (after done) g.is ∙ after-more done (rows_of g.read) g.more ∙ ap (after (done ++ rows_of g.read)) is_tail,
+      subst (λ (groups : Groups). most_groups < finite.len groups) (sym (c.in_ok-named.ensures rows others same)) over,
     )
 
 pub reading-preserved : goal.reading-preserved
@@ -53,12 +66,23 @@ reading-preserved c =
       most = added.most ∙ c.reading.invariant.most;
       fits = let (n, h, le) = c.reading.invariant.fits in (n + c.in-Some.block.count, added.fits n h, omega arith);
       so_far = λ whole h.
-          let (done, more, left, is, so) = c.reading.invariant.so_far whole h in
-          let (rest, next, is_next) = rw c.in-Some.is at (e.ok more left) in (
-            done ++ rows_of c.in-Some.block,
-            rest,
-            next,
-            is ∙ ap (after done) is_next ∙ after-more done (rows_of c.in-Some.block) rest,
-            block_added c.args.bound.now c.in-Some.block.count done (rows_of c.in-Some.block) c.reading.table c.add_block.new.table added so,
+          let (done, seen, more, left, is, agree, so) = c.reading.invariant.so_far whole h in
+          let g = rw c.in-Some.is at (e.ok more left) in
+          let marks = c.in_ok-named.named.items in (
+            done ++ rows_of g.read,
+            seen ++ rows_of c.in-Some.block,
+            g.more,
+            g.gives,
+            is ∙ ap (after done) g.is ∙ after-more done (rows_of g.read) g.more,
+            agreeing-both (is_marked marks) done seen (rows_of g.read) (rows_of c.in-Some.block) agree (kept-agree marks g.read c.in-Some.block (subst (λ (m : List Bool). AreKept m g.read c.in-Some.block) c.deref.ensures.value g.same)),
+            block_added c.args.bound.now c.in-Some.block.count seen (rows_of c.in-Some.block) c.reading.table c.add_block.new.table added so,
           );
     }
+
+pub returns-clause-ok : goal.returns-clause-ok
+returns-clause-ok c = λ whole h.
+    let (done, seen, more, left, is, agree, so) = c.reading.invariant.so_far whole h in (
+      done,
+      after-all done whole more is (rw c.in_default.is at (c.in_ok-block.ensures.ok more left)),
+      so ∙ sym (c.in_ok-named.ensures done seen agree),
+    )

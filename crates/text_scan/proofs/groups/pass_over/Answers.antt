@@ -18,13 +18,13 @@ rest-preserved c = record {
   blocks = c.in_ok-_block.ensures.blocks;
   so_far = λ whole h.
       let (done, more, left, is) = c.rest.invariant.so_far whole h in
-      let (rest, next, is_next) = rw c.in-Some.is at (c.in_ok-_block.ensures.ok more left) in
-      (done ++ rows_of c.in-Some._block, rest, next, is ∙ ap (after done) is_next ∙ after-more done (rows_of c.in-Some._block) rest);
+      let g = rw c.in-Some.is at (c.in_ok-_block.ensures.ok more left) in
+      (done ++ rows_of g.read, g.more, g.gives, is ∙ ap (after done) g.is ∙ after-more done (rows_of g.read) g.more);
 }
 
 pub returns-in_err-_block-clause-err : goal.returns-in_err-_block-clause-err
 returns-in_err-_block-clause-err c =
-    err-halted c.from_residual.result (λ why. (whole : RowsOrFault) → Gives c.args.blocks.now whole → IsTextFault whole why) c.in_err-_block.field-0.0 c.from_residual.ensures.1
+    err-halted c.from_residual-in_err-_block.result (λ why. (whole : RowsOrFault) → Gives c.args.blocks.now whole → IsTextFault whole why) c.in_err-_block.field-0.0 c.from_residual-in_err-_block.ensures.1
     (λ whole h.
     let (done, more, left, is) = c.rest.invariant.so_far whole h in
     stops-after done whole more c.in_err-_block.field-0.0 is (c.in_err-_block.ensures.err more left))
