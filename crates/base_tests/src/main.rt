@@ -14,6 +14,7 @@ mod forward_indexes;
 mod index_sections;
 mod shelves;
 mod sinks;
+mod slots;
 mod tests_of_values;
 mod trees;
 mod values_in_order;
@@ -56,6 +57,7 @@ fn aggregates_and_trees(alloc: Global, all: &Expectations) {
     aggregates::states_of_values(all);
     aggregates::stored_states(all);
     aggregates::rows_of_states(alloc, all);
+    slots::slots_of_owners(alloc, all);
     trees::tables_of_documents(alloc, all);
     trees::laws_of_trees(all);
 }

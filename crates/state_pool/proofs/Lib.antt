@@ -2,3 +2,4 @@ pub mod SlotLemmas
 pub mod CellLemmas
 pub mod OwnerLemmas
 pub mod PoolSteps
+pub mod HeldLemmas

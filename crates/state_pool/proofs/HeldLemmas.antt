@@ -1,0 +1,38 @@
+-- Slots that are still held after another one is taken.
+use Rattle.std.proofs.Common.{◌≡◌, ◌≢◌, ◌∙◌, ℕ, ◌<◌, ◌≤◌, true, ap, subst, arith, ◌⊎◌, inl, inr, is_some}
+use Rattle.std.proofs.lemmas.Bool.{cases_lt}
+use Rattle.std.specs.FinMap as finite
+use Rattle.agg_laws.specs.Rows.{units_of}
+use Rattle.state_pool.specs.Pool.{Pool, Place, Slots, slots_of, kinds_at, Takes, IsOut}
+use Rattle.state_pool.proofs.SlotLemmas.{put_here, put_there}
+
+-- what is asked of a number holds of every number if it holds of that one and of every other
+each_number : (P : ℕ → Type 0) (n : ℕ) → P n → ((q : ℕ) → q ≢ n → P q) → (q : ℕ) → P q
+each_number P n here there q = by (cases_lt q n) (cases_lt n q)
+  where
+    by : (q < n) ⊎ (n ≤ q) → (n < q) ⊎ (q ≤ n) → P q
+    by (inl l) after = there q (λ e. omega (arith, l, e))
+    by (inr ge) (inl l) = there q (λ e. omega (arith, l, e))
+    by (inr ge) (inr le) = let same : n ≡ q = omega (arith, ge, le) in subst P same here
+
+pub still_out : (owner : ℕ) (taken : Place) (old new : Pool) → Takes owner taken old new → (holder number : ℕ)
+    → finite.contains_key (slots_of old holder) number ≡ true → finite.contains_key (slots_of new holder) number ≡ true
+still_out owner taken old new t holder number out = each_number
+    (λ holder. finite.contains_key (slots_of old holder) number ≡ true → finite.contains_key (slots_of new holder) number ≡ true) owner own
+    (λ holder ne out. ap (λ (m : Slots). finite.contains_key m number) (t.changes.others holder ne) ∙ out) holder out
+  where
+    own : finite.contains_key (slots_of old owner) number ≡ true → finite.contains_key (slots_of new owner) number ≡ true
+    own out = ap (λ (m : Slots). finite.contains_key m number) t.changes.own ∙ each_number
+        (λ number. finite.contains_key (slots_of old owner) number ≡ true
+        → finite.contains_key (finite.insert (slots_of old owner) taken.number (units_of (kinds_at old owner))) number ≡ true) taken.number
+        (λ _. ap is_some (put_here (slots_of old owner) taken.number (units_of (kinds_at old owner))))
+        (λ q ne out. ap is_some (put_there (slots_of old owner) taken.number (units_of (kinds_at old owner)) q ne) ∙ out) number out
+
+pub slot_still_out : (owner : ℕ) (taken : Place) (old new : Pool) → Takes owner taken old new → (slot : Place) → IsOut old slot → IsOut new slot
+slot_still_out owner taken old new t slot out = still_out owner taken old new t slot.owner slot.number out
+
+-- a slot that was taken is out
+pub taken_out : (owner : ℕ) (slot : Place) (old new : Pool) → Takes owner slot old new → IsOut new slot
+taken_out owner slot old new t = ap (λ o. finite.contains_key (slots_of new o) slot.number) t.owner_is
+    ∙ ap (λ (m : Slots). finite.contains_key m slot.number) t.changes.own
+    ∙ ap is_some (put_here (slots_of old owner) slot.number (units_of (kinds_at old owner)))
