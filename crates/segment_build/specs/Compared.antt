@@ -4,6 +4,7 @@ use Rattle.outside.specs.Files.{bytes_of}
 use Rattle.outside.specs.Seen.{OnlyReads, Seen}
 use Rattle.segment_build.specs.declared.fault.CompareFault.{CompareFault}
 use Rattle.segment_build.specs.declared.fault.CompareFault.TheVariants.{Differs, Failed}
+use Rattle.segment_build.specs.FileReads.{LogsFile}
 
 -- the file that is compared, and the place up to which it was found the same
 pub record Compared : Type 0 where
@@ -22,7 +23,7 @@ pub record IsCommon (bytes list : List ℕ) (count : ℕ) : Type 0 where
   pub other : count < length bytes → slice_get bytes count ≢ slice_get list count
 
 -- the bytes were found in the file at the place and after it, or the place is that of the first
--- that is another, or not there. The place does not count past 64 bits
+-- that is another, or not there; no other file was read. The place does not count past 64 bits
 pub record Compares (bytes : List ℕ) (result : Result (Unit {0}) CompareFault)
     (old : Compared) (before : Seen) (new : Compared) (after : Seen) : Type 0 where
   pub file : new.file ≡ old.file
@@ -33,3 +34,4 @@ pub record Compares (bytes : List ℕ) (result : Result (Unit {0}) CompareFault)
       → IfSome before.held (λ files. (n : ℕ) × (new.at ≡ old.at + n) × (n < length bytes)
       × DifferAt bytes (drop old.at (bytes_of (Some files) old.file)) n)
   pub only_reads : OnlyReads (IsErrOf result Failed) before after
+  pub log : LogsFile old.file before.log after.log

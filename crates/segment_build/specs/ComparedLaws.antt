@@ -7,6 +7,7 @@ use Rattle.outside.specs.Seen.{OnlyReads, Seen}
 use Rattle.segment_build.specs.declared.fault.CompareFault.{CompareFault}
 use Rattle.segment_build.specs.declared.fault.CompareFault.TheVariants.{Differs, Failed}
 use Rattle.segment_build.specs.Compared.{Compared, Compares, DifferAt, IsCommon}
+use Rattle.segment_build.specs.FileReads.{LogsFile, file_then}
 
 -- ---- lists
 
@@ -163,6 +164,8 @@ compares_joined a b r x y z s t u first then =
           (arith, long, at)) is))));
       only_reads = reads_then (IsErrOf r Failed) s t u
           (went_well s t first.only_reads) then.only_reads;
+      log = file_then x.file s.log t.log u.log first.log
+          (subst (λ f. LogsFile f t.log u.log) first.file then.log);
     }
 
 pub compares_stopped : (a b : List ℕ) (fault : CompareFault) (x y : Compared)
@@ -184,4 +187,5 @@ compares_stopped a b fault x y s t first =
           ))
           (first.differs (omega (arith, long)) is);
       only_reads = first.only_reads;
+      log = first.log;
     }

@@ -5,6 +5,7 @@ pub mod Numbers
 pub mod RowColumns
 pub mod Growing
 pub mod Publishing
+pub mod FileReads
 pub mod Compared
 pub mod ComparedLaws
 pub mod FileLaws

@@ -4,6 +4,7 @@ ghost use Rattle.outside.specs.Files.{bytes_of};
 ghost use Rattle.outside.specs.Reads.{Fills};
 ghost use Rattle.outside.specs.Seen.{OnlyReads, seen};
 ghost use Rattle.segment_build.specs.Compared.{IsCommon};
+ghost use Rattle.segment_build.specs.FileReads.{LogsFile};
 
 use crate::{CompareFault, PIECE, Taker};
 use outside::{Name, NoMemory, Shelf, ShelfFault, read_into};
@@ -96,6 +97,7 @@ fn common_front<S: Shelf>(
     ensures at_most { IfOk result (λ n. n ≤ length piece.now) }
     ensures only_reads { OnlyReads (IsErrOf result CompareFault.Failed)
         (seen S.Shelf shelf.old) (seen S.Shelf shelf.new) }
+    ensures log { LogsFile file.now (S.log shelf.old) (S.log shelf.new) }
     ensures never { ¬ IsErrOf result CompareFault.Differs }
 {
     let into = &mut buffer[..piece.len()];
@@ -119,6 +121,7 @@ fn read_there<S: Shelf>(
     ensures bound { IfOk result (λ n. n ≤ length into.old) }
     ensures only_reads { OnlyReads (IsErrOf result CompareFault.Failed)
         (seen S.Shelf shelf.old) (seen S.Shelf shelf.new) }
+    ensures log { LogsFile file.now (S.log shelf.old) (S.log shelf.new) }
     ensures never { ¬ IsErrOf result CompareFault.Differs }
 {
     match read_into(alloc, shelf, file, at, into) {

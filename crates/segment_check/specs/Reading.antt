@@ -22,8 +22,9 @@ use Rattle.segment_file.specs.Image.{image}
 use Rattle.segment_file.specs.Names.{IsSegmentName, IsSegmentOf}
 use Rattle.segment_file.specs.Parts.{sections_of}
 use Rattle.segment_file.specs.Rules.{FailsAt, HasFront}
-use Rattle.segment_head.specs.Heads.{IsHead, Seen, bytes_in, place_in}
+use Rattle.segment_head.specs.Heads.{AreIn, IsHead, Seen, bytes_in, place_in}
 use Rattle.segment_build.specs.Compared.{DifferAt}
+use Rattle.segment_build.specs.FileReads.{LogsFile}
 use Rattle.segment_build.specs.Growing.{IsTooLarge, TreesFit}
 use Rattle.segment_check.specs.Calls.{OfBytes}
 use Rattle.segment_check.specs.Checked.{part_at}
@@ -113,7 +114,9 @@ pub record ReadsFileHead (table : Table) (name file : List ℕ) (old new : outsi
       IsFileHead table name file bytes read))
   pub refused : IfErr result (λ fault. (p : Part) → fault ≡ NotASegment p
       → OfBytes old.held file (λ bytes. FailsAt table name bytes p))
+  pub placed : IfOk result (λ read. AreIn file read.head.sections)
   pub only_reads : OnlyReads (IsErrOf result ReadFault) old new
+  pub log : LogsFile file old.log new.log
 
 -- the values of the rows in a column were read, or its forward index has no such ids
 pub record ReadsColumn (head : Seen) (column : ℕ) (old new : outside.Seen)
@@ -137,6 +140,7 @@ pub record ReadsColumns (table : Table) (head : Seen) (old new : outside.Seen)
   pub refused : IfErr result (λ fault. (p : Part) → fault ≡ NotASegment p
       → (column : ℕ) × (p ≡ parts.Forward column) × FailsColumn table old.held head column)
   pub only_reads : OnlyReads (IsErrOf result ReadFault) old new
+  pub log : (file : List ℕ) → AreIn file head.sections → LogsFile file old.log new.log
 
 -- a file with this front was compared with the image of rows, whose bytes it has from the first on
 pub record ComparesImage (table : Table) (name file : List ℕ) (front : Front)
@@ -148,6 +152,7 @@ pub record ComparesImage (table : Table) (name file : List ℕ) (front : Front)
   pub refused : IfErr result (λ fault. (p : Part) → fault ≡ NotASegment p
       → IsUnlike table name file old.held front rows p)
   pub only_reads : OnlyReads (IsErrOf result ReadFault) old new
+  pub log : LogsFile file old.log new.log
 
 -- the front of a file of the table, and columns of rows of it
 pub record MayCompare (table : Table) (name : List ℕ) (head : FileHead) (t : ListedColumns)

@@ -1,5 +1,5 @@
 //! The columns of a file are read: the ids of its forward indexes, and the values of these.
-ghost use Rattle.std.specs.Prelude.{◌≡◌, ◌++◌, ◌∷◌, [], ℕ, IfErr, IfOk, IfSome, IsErrOf, IsSome, OnOk, length, slice_get, Some};
+ghost use Rattle.std.specs.Prelude.{◌≡◌, ◌++◌, ◌∷◌, [], ℕ, List, IfErr, IfOk, IfSome, IsErrOf, IsSome, OnOk, length, slice_get, Some};
 ghost use Rattle.outside.specs.Seen.{OnlyReads, seen};
 ghost use Rattle.value_ids.specs.Coding.{AreBelow, values_at};
 ghost use Rattle.value_ids.specs.Dictionary.{Distinct, IsDictionary};
@@ -7,7 +7,8 @@ ghost use Rattle.values.specs.Kinds.{is_of};
 ghost use Rattle.segment_file.specs.declared.fault.HeadFault.TheVariants.{NotASegment};
 ghost use Rattle.segment_file.specs.declared.part.Part.{Part};
 ghost use Rattle.segment_file.specs.declared.part.Part.TheVariants as part;
-ghost use Rattle.segment_head.specs.Heads.{IsLoaded, place_in};
+ghost use Rattle.segment_build.specs.FileReads.{LogsFile};
+ghost use Rattle.segment_head.specs.Heads.{AreIn, IsLoaded, place_in};
 ghost use Rattle.segment_check.specs.Reading.{IsSomeHead, ReadsColumn, ReadsColumns};
 
 use crate::head::FileHead;
@@ -64,8 +65,10 @@ fn read_column<S: Shelf>(
     requires placed { IsSome (place_in head.now.sections (part.Forward column)) }
     requires kind { (d : Distinct) → slice_get head.now.dictionaries column ≡ Some (Some d)
         → d.kind ≡ kind }
-    ensures { ReadsColumn head.now column
+    ensures reads { ReadsColumn head.now column
         (seen S.Shelf shelf.old) (seen S.Shelf shelf.new) result }
+    ensures log { (file : List ℕ) → AreIn file head.now.sections
+        → LogsFile file (S.log shelf.old) (S.log shelf.new) }
 {
     let Some(place) = head.place(Part::Forward(column)) else {
         unreachable!();

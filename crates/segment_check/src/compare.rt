@@ -6,6 +6,7 @@ ghost use Rattle.segment_file.specs.declared.fault.HeadFault.TheVariants.{NotASe
 ghost use Rattle.segment_file.specs.declared.part.Part.{Part};
 ghost use Rattle.segment_file.specs.Front.{extents_from};
 ghost use Rattle.segment_build.specs.Compared.{DifferAt};
+ghost use Rattle.segment_build.specs.FileReads.{LogsFile};
 ghost use Rattle.segment_build.specs.Made.{file_bytes};
 ghost use Rattle.segment_check.specs.Calls.{OfBytes};
 ghost use Rattle.segment_check.specs.Checked as spec;
@@ -66,6 +67,7 @@ fn first_difference<S: Shelf>(
     ensures never { IfErr result (λ fault. (p : Part) → ¬ (fault ≡ NotASegment p)) }
     ensures only_reads { OnlyReads (IsErrOf result HeadFault.ReadFault)
         (seen S.Shelf shelf.old) (seen S.Shelf shelf.new) }
+    ensures log { LogsFile file.now (S.log shelf.old) (S.log shelf.new) }
 {
     let mut comparing = Comparing::with_file(alloc, file)?;
     match made.give(alloc, &mut comparing, shelf) {

@@ -9,3 +9,4 @@ pub mod DropLemmas
 mod OpenLemmas
 pub mod StandsLemmas
 pub mod KeyLemmas
+pub mod ImageLemmas

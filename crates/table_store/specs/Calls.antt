@@ -1,17 +1,21 @@
 -- What calls on a store tell of its files, and leave of its depot.
-use Rattle.std.specs.Prelude.{◌≡◌, ◌≤◌, ℕ, List, Option, Result, IfSome, IsErrOf, OnOk}
+use Rattle.std.specs.Prelude.{◌≡◌, ◌≤◌, ℕ, List, Option, Some, Result, IfErr, IfOk, IfSome, IsErrOf, OnOk}
 use Rattle.outside.specs.Counts.{Rose}
 use Rattle.outside.specs.Files.{Files, SameBut, with_file, without_file}
 use Rattle.outside.specs.Seen.{OnlyReads, Seen}
+use Rattle.values.specs.Columns.{ListedColumns, rows_of}
 use Rattle.values.specs.declared.value.Value.{Value}
 use Rattle.table_schema.specs.declared.table.Table.{Table}
 use Rattle.segment_build.specs.Growing.{TreesFit}
+use Rattle.segment_build.specs.FileReads.{LogsFile}
 use Rattle.segment_build.specs.Publishing.{incoming}
 use Rattle.segment_file.specs.Image.{image}
 use Rattle.segment_file.specs.Names.{file_of}
+use Rattle.segment_file.specs.declared.part.Part.{Part}
+use Rattle.table_store.specs.Images.{IsNoStoredImage, IsStoredImage}
 use Rattle.table_store.specs.Segments.{HasRoom, HasSegment, IsFull, LacksSegment}
 use Rattle.table_store.specs.declared.fault.StoreFault.{StoreFault}
-use Rattle.table_store.specs.declared.fault.StoreFault.TheVariants.{NameTaken, TooManySegments}
+use Rattle.table_store.specs.declared.fault.StoreFault.TheVariants.{NameTaken, NoMemory, NoSegment, NotASegment, ReadFault, TooManySegments}
 
 -- what a look for a place for a segment of this name tells: there is none of the name and there are
 -- fewer than the most, or why there is no place
@@ -29,6 +33,30 @@ pub record IsPublished (table : Table) (name : List ℕ) (rows : List (List Valu
   pub published : new.held ≡ with_file (file_of name) (image 1 table name rows) old.held
   pub gone : new.parts ≡ without_file incoming old.parts
   pub fits : TreesFit table rows
+
+-- why a segment of a table is refused by its file
+abbrev pub IsCheckFault : StoreFault → Type 0
+IsCheckFault NoSegment = Unit {0}
+IsCheckFault (NotASegment part) = Unit {0}
+IsCheckFault ReadFault = Unit {0}
+IsCheckFault NoMemory = Unit {0}
+IsCheckFault other = ⊥
+
+-- the file of the segment of this name was looked at whole, and no other: it is the image of the
+-- rows that are answered, or of none, or there is no such file, and nothing is read
+pub record ChecksSegment (table : Table) (name : List ℕ) (old new : Seen)
+    (result : Result ListedColumns StoreFault) : Type 0 where
+  pub there : OnOk result (HasSegment old.held name)
+  pub image : IfOk result (λ t. IfSome old.held (λ files.
+      IsStoredImage table files name (rows_of t)))
+  pub missing : IsErrOf result NoSegment → LacksSegment old.held name
+  pub refused : IfErr result (λ fault. (p : Part) → fault ≡ NotASegment p
+      → HasSegment old.held name × IfSome old.held (λ files.
+      IsNoStoredImage table files name p))
+  pub only : IfErr result IsCheckFault
+  pub only_reads : OnlyReads (IsErrOf result ReadFault) old new
+  pub log : LogsFile (file_of name) old.log new.log
+  pub unread : IfSome old.held (λ files. LacksSegment (Some files) name → new.log ≡ old.log)
 
 -- what a call that looks at names and lengths of files alone leaves of a depot
 pub record ReadsNoByte (Fails : Type 0) (old new : Seen) : Type 0 where

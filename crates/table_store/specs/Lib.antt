@@ -3,5 +3,6 @@ pub mod TableFile
 pub mod Faults
 pub mod Segments
 pub mod Accepted
+pub mod Images
 pub mod Calls
 pub mod Stands

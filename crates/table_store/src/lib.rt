@@ -1,9 +1,10 @@
 //! The table of a store: its file, which is made of two texts, and why a call on a store is
 //! refused. The segments of a store by their names, and whether there is a place for one more. The
-//! state that the files of a store stand for: its table is opened, and segments are put in and
-//! dropped.
+//! state that the files of a store stand for: its table is opened, and segments are put in, looked
+//! at whole, and dropped.
 #![tactic(auto)]
 
+mod checking;
 mod create;
 mod dropping;
 mod fault;
@@ -13,6 +14,7 @@ mod publishing;
 mod segments;
 mod table_file;
 
+pub use checking::check_segment;
 pub use create::{create_table, has_table};
 pub use dropping::drop_segment;
 pub use fault::StoreFault;

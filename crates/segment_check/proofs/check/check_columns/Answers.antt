@@ -4,6 +4,7 @@ use Rattle.outside.proofs.SeenLemmas.{reads_after}
 use Rattle.segment_file.proofs.Faults.{reads_ended, reads_err, reads_handed, reads_well}
 use Rattle.values.specs.Columns.{ListedColumns, rows_of}
 use Rattle.segment_file.specs.Image.{image}
+use Rattle.segment_build.specs.FileReads.{file_then}
 use Rattle.segment_check.specs.Calls.{OfBytes}
 use Rattle.segment_check.specs.Reading.{AreColumns, FailsColumn, IsUnlike}
 use Rattle.segment_check.proofs.Sameness.{column_refused, image_found, rule_refused, unlike_refused}
@@ -17,6 +18,7 @@ returns-in-Err g c =
       image = tt;
       refused = λ p is. rule_refused c.args.table.now c.args.name.now c.args.file.now old.held p (c.in-Err.ensures.refused p is);
       only_reads = reads_handed c.in-Err.fault old (seen g.S.Shelf c.read_file_head.new.shelf) c.in-Err.ensures.only_reads;
+      log = c.in-Err.ensures.log;
     }
 
 pub returns-in-Err-read_columns : goal.returns-in-Err-read_columns
@@ -31,6 +33,7 @@ returns-in-Err-read_columns g c =
           let f = c.in-Err-read_columns.ensures.refused p is in
           column_refused c.args.table.now c.args.name.now c.args.file.now old.held c.in-Ok.read f.0 p c.requires.valid c.requires.name first.told f.1 (subst (λ h. FailsColumn c.args.table.now h c.in-Ok.read.head f.0) first.only_reads.held f.2);
       only_reads = reads_err c.in-Err-read_columns.fault old mid (seen g.S.Shelf c.read_columns.new.shelf) (reads_well c.in-Ok.read old mid first.only_reads) c.in-Err-read_columns.ensures.only_reads;
+      log = file_then c.args.file.now old.log mid.log (g.S.Shelf.log c.read_columns.new.shelf) first.log (c.in-Err-read_columns.ensures.log c.args.file.now first.placed);
     }
 
 pub returns-in-Ok-compare : goal.returns-in-Ok-compare
@@ -56,6 +59,7 @@ returns-in-Ok-compare g c =
       only_reads = reads_ended t old last
           (reads_after ⊥ old later last (reads_after ⊥ old mid later (reads_well c.in-Ok.read old mid first.only_reads) (reads_well t mid later second.only_reads))
           (reads_well c.in-Ok-compare.field-0 later last third.only_reads));
+      log = file_then file old.log later.log last.log (file_then file old.log mid.log later.log first.log (second.log file first.placed)) third.log;
     }
 
 pub returns : goal.returns
@@ -80,4 +84,5 @@ returns g c =
           (subst (λ h. AreColumns h c.in-Ok.read.head (length table.schema.fields) t.columns) first.only_reads.held second.columns) second.fields
           (subst (λ h. IsUnlike table name file h c.in-Ok.read.front (rows_of t) p) held (third.refused p is));
       only_reads = reads_err c.in-Err-compare.fault old later last (reads_after ⊥ old mid later (reads_well c.in-Ok.read old mid first.only_reads) (reads_well t mid later second.only_reads)) third.only_reads;
+      log = file_then file old.log later.log last.log (file_then file old.log mid.log later.log first.log (second.log file first.placed)) third.log;
     }

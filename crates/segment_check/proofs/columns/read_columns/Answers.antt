@@ -1,11 +1,12 @@
-use Rattle.std.proofs.Common.{◌≡◌, ◌∙◌, ◌<◌, ◌≤◌, ◌+◌, ℕ, List, length, slice_get, Some, IfSome, sym, ap, subst, arith}
+use Rattle.std.proofs.Common.{◌≡◌, ◌∙◌, ◌<◌, ◌≤◌, ◌+◌, ℕ, List, length, slice_get, Some, IfSome, refl, sym, ap, subst, arith}
 use Rattle.std.specs.List.{All}
 use Rattle.outside.specs.Seen.{Seen, seen}
-use Rattle.outside.proofs.SeenLemmas.{reads_after}
+use Rattle.outside.proofs.SeenLemmas.{reads_after, reads_none}
 use Rattle.values.specs.Columns.{Counts, ListedColumns}
 use Rattle.value_ids.specs.Dictionary.{Distinct}
 use Rattle.segment_file.specs.declared.part.Part.TheVariants as parts
 use Rattle.segment_file.proofs.Faults.{growth_bad, growth_ok, growth_reads, reads_ended, reads_err, reads_well}
+use Rattle.segment_build.specs.FileReads.{file_then, file_unread}
 use Rattle.segment_check.specs.Reading.{AreColumns, AreOfFields, FailsColumn, HasIdsOf, IsColumn}
 use Rattle.segment_check.proofs.ColumnLemmas.{columns_have, columns_more, counts_each}
 use Rattle.segment_check.proofs.HeadLemmas.{column_kind, forward_placed}
@@ -40,7 +41,7 @@ returns-in-Err g c =
       count = tt;
       columns = tt;
       refused = λ p is.
-          let first = c.in-Err.ensures.refused p is in (
+          let first = c.in-Err.ensures.reads.refused p is in (
             c.columns.at,
             first.0,
             record {
@@ -49,7 +50,8 @@ returns-in-Err g c =
               none = λ d loaded. subst (λ h. IfSome h (λ files. ¬ HasIdsOf files c.args.read.now.head c.columns.at (length d.values))) c.columns.invariant.only_reads.held (first.1 d loaded);
             },
           );
-      only_reads = reads_err c.in-Err.fault old mid now c.columns.invariant.only_reads c.in-Err.ensures.only_reads;
+      only_reads = reads_err c.in-Err.fault old mid now c.columns.invariant.only_reads c.in-Err.ensures.reads.only_reads;
+      log = λ file within. file_then file old.log mid.log now.log (c.columns.invariant.log file within) (c.in-Err.ensures.log file within);
     }
 
 pub columns-preserved : goal.columns-preserved
@@ -62,8 +64,9 @@ columns-preserved g c =
     record {
       columns = subst (AreColumns held head (c.columns.at + 1)) (sym c.in_ok-keep-in-Ok.ensures)
           (columns_more held head c.columns.at c.columns.columns.items c.in-Ok.column c.columns.invariant.columns
-          (λ d loaded. subst (λ h. IsColumn h head c.columns.at d c.in-Ok.column.values) c.columns.invariant.only_reads.held (c.in-Ok.ensures.column_is d loaded)));
-      only_reads = reads_after ⊥ old mid now c.columns.invariant.only_reads (reads_well c.in-Ok.column mid now c.in-Ok.ensures.only_reads);
+          (λ d loaded. subst (λ h. IsColumn h head c.columns.at d c.in-Ok.column.values) c.columns.invariant.only_reads.held (c.in-Ok.ensures.reads.column_is d loaded)));
+      only_reads = reads_after ⊥ old mid now c.columns.invariant.only_reads (reads_well c.in-Ok.column mid now c.in-Ok.ensures.reads.only_reads);
+      log = λ file within. file_then file old.log mid.log now.log (c.columns.invariant.log file within) (c.in-Ok.ensures.log file within);
     }
 
 pub new-requires : goal.new-requires
@@ -96,6 +99,7 @@ returns g c =
       columns = subst (λ (x : ListedColumns). AreColumns old.held head (length table.schema.fields) x.columns) (sym c.new.ensures) columns;
       refused = tt;
       only_reads = reads_ended c.new.result old mid c.columns.invariant.only_reads;
+      log = c.columns.invariant.log;
     }
 
 pub returns-in_err-keep-in-Ok : goal.returns-in_err-keep-in-Ok
@@ -111,5 +115,28 @@ returns-in_err-keep-in-Ok g c =
       count = growth_ok (λ (t : ListedColumns). t.count ≡ head.rows) r.result r.ensures;
       columns = growth_ok (λ (t : ListedColumns). AreColumns old.held head (length table.schema.fields) t.columns) r.result r.ensures;
       refused = growth_bad (λ p. (column : ℕ) × (p ≡ parts.Forward column) × FailsColumn table old.held head column) r.result r.ensures;
-      only_reads = growth_reads r.result old now r.ensures (reads_after ⊥ old mid now c.columns.invariant.only_reads (reads_well c.in-Ok.column mid now c.in-Ok.ensures.only_reads));
+      only_reads = growth_reads r.result old now r.ensures (reads_after ⊥ old mid now c.columns.invariant.only_reads (reads_well c.in-Ok.column mid now c.in-Ok.ensures.reads.only_reads));
+      log = λ file within. file_then file old.log mid.log now.log (c.columns.invariant.log file within) (c.in-Ok.ensures.log file within);
+    }
+
+pub columns-init : goal.columns-init
+columns-init g c = record {
+  columns = record { many = ap length c.in_ok-columns.ensures.items; each = λ column d lt. absurd (omega (arith, lt)) };
+  only_reads = reads_none (seen g.S.Shelf c.args.shelf.now);
+  log = λ file within. file_unread file (g.S.Shelf.log c.args.shelf.now) (g.S.Shelf.log c.args.shelf.now) refl;
+}
+
+pub returns-in_err-columns : goal.returns-in_err-columns
+returns-in_err-columns g c =
+    let table = c.args.table.now in
+    let head = c.args.read.now.head in
+    let old : Seen = seen g.S.Shelf c.args.shelf.now in
+    let r = c.from_residual in
+    record {
+      fields = growth_ok (AreOfFields table) r.result r.ensures;
+      count = growth_ok (λ (t : ListedColumns). t.count ≡ head.rows) r.result r.ensures;
+      columns = growth_ok (λ (t : ListedColumns). AreColumns old.held head (length table.schema.fields) t.columns) r.result r.ensures;
+      refused = growth_bad (λ p. (column : ℕ) × (p ≡ parts.Forward column) × FailsColumn table old.held head column) r.result r.ensures;
+      only_reads = growth_reads r.result old old r.ensures (reads_none old);
+      log = λ file within. file_unread file old.log old.log refl;
     }

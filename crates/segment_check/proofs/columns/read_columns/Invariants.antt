@@ -1,7 +1,9 @@
-use Rattle.std.proofs.Common.{◌≡◌}
+use Rattle.std.proofs.Common.{◌≡◌, ℕ, List}
 use Rattle.std.specs.List.{All}
 use Rattle.outside.specs.Seen.{OnlyReads, seen}
 use Rattle.values.specs.Columns.{Counts}
+use Rattle.segment_build.specs.FileReads.{LogsFile}
+use Rattle.segment_head.specs.Heads.{AreIn}
 use Rattle.segment_check.specs.Reading.{AreColumns}
 use Rattle.segment_check.proofs.columns.read_columns.Given as goal
 
@@ -10,4 +12,5 @@ abbrev pub invariant-columns : goal.invariant-columns
 invariant-columns g l = record {
   columns : AreColumns (g.S.Shelf.held l.fn.shelf) l.read.head l.at l.columns.items;
   only_reads : OnlyReads ⊥ (seen g.S.Shelf l.fn.shelf) (seen g.S.Shelf l.shelf);
+  log : (file : List ℕ) → AreIn file l.read.head.sections → LogsFile file (g.S.Shelf.log l.fn.shelf) (g.S.Shelf.log l.shelf);
 }

@@ -4,6 +4,7 @@ use Rattle.outside.proofs.SeenLemmas.{reads_none}
 use Rattle.segment_file.proofs.Faults.{reads_other}
 use Rattle.segment_file.specs.declared.part.Part.TheVariants as parts
 use Rattle.segment_file.proofs.Counts.{few_sections}
+use Rattle.segment_build.specs.FileReads.{file_unread}
 use Rattle.segment_build.specs.Made.{file_bytes}
 use Rattle.segment_check.proofs.Sameness.{image_small}
 use Rattle.segment_check.proofs.compare.compare.Goals as goal
@@ -24,6 +25,7 @@ returns-in-Err-TooLarge g c =
           let named : p ≡ parts.Nodes fails.tree = cc (is, fails.tree-is) in
           inl (fails.tree, named, own.built.too_large fails.tree refl);
       only_reads = reads_other _ old old (λ e. cc) (reads_none old);
+      log = file_unread c.args.file.now old.log old.log refl;
     }
 
 pub front_size-start-requires-clause-sections : goal.front_size-start-requires-clause-sections

@@ -2,14 +2,16 @@ use Rattle.std.proofs.Common.{◌≡◌, ◌∙◌, ℕ, List, Some, None, Optio
 use Rattle.outside.specs.Files.{bytes_of}
 use Rattle.outside.specs.Seen.{seen}
 use Rattle.outside.proofs.SeenLemmas.{reads_after, reads_none}
-use Rattle.segment_file.specs.Front.{head_end}
+use Rattle.segment_file.specs.Front.{front_size, head_end}
 use Rattle.segment_file.specs.Reading.{IsFrontOf, IsHeadCut}
 use Rattle.segment_file.specs.Rules.{FailsAt}
 use Rattle.segment_file.proofs.Faults.{growth_bad, growth_ok, growth_reads, reads_ended, reads_err, reads_handed, reads_other, reads_well}
 use Rattle.segment_file.proofs.Openings.{few_bytes}
+use Rattle.segment_build.specs.FileReads.{file_then, file_through, file_unread, file_up}
+use Rattle.segment_head.specs.Heads.{AreIn}
 use Rattle.segment_check.specs.Calls.{OfBytes}
 use Rattle.segment_check.specs.Reading.{IsFileHead, IsSomeHead}
-use Rattle.segment_check.proofs.HeadLemmas.{few_rows, head_fails, told_file, told_head, untold}
+use Rattle.segment_check.proofs.HeadLemmas.{few_rows, head_fails, sections_in, told_file, told_head, untold}
 use Rattle.segment_check.proofs.head.read_file_head.Goals as goal
 
 pub read_front-requires : goal.read_front-requires
@@ -43,7 +45,9 @@ returns-in_err-parts g c =
       some = growth_ok (IsSomeHead table name) c.from_residual.result c.from_residual.ensures;
       told = growth_ok (λ read. OfBytes held file (λ bytes. IsFileHead table name file bytes read)) c.from_residual.result c.from_residual.ensures;
       refused = growth_bad (λ p. OfBytes held file (λ bytes. FailsAt table name bytes p)) c.from_residual.result c.from_residual.ensures;
+      placed = growth_ok (λ read. AreIn file read.head.sections) c.from_residual.result c.from_residual.ensures;
       only_reads = growth_reads c.from_residual.result old old c.from_residual.ensures (reads_none old);
+      log = file_unread file old.log old.log refl;
     }
 
 pub returns-in-Err : goal.returns-in-Err
@@ -57,7 +61,9 @@ returns-in-Err g c =
       some = tt;
       told = tt;
       refused = λ p is. let first = c.in-Err.ensures.refused p is in head_fails table name file held p first.0 first.1;
+      placed = tt;
       only_reads = reads_handed c.in-Err.fault old (seen g.S.Shelf c.read_front.new.shelf) c.in-Err.ensures.only_reads;
+      log = file_up file 0 (front_size table name) old.log (g.S.Shelf.log c.read_front.new.shelf) c.in-Err.ensures.log_of_fault;
     }
 
 pub returns-in-Err-read_rest : goal.returns-in-Err-read_rest
@@ -72,8 +78,11 @@ returns-in-Err-read_rest g c =
     record {
       some = tt;
       told = tt;
+      placed = tt;
       refused = λ p is. untold (λ files. FailsAt table name (bytes_of (Some files) file) p) held (sym c.in-Ok.ensures.only_reads.held ∙ c.in-Err-read_rest.ensures.refused p is);
       only_reads = reads_err c.in-Err-read_rest.fault old between (seen g.S.Shelf c.read_rest.new.shelf) (reads_well read old between c.in-Ok.ensures.only_reads) c.in-Err-read_rest.ensures.only_reads;
+      log = file_then file old.log between.log (g.S.Shelf.log c.read_rest.new.shelf) (file_through file 0 (front_size table name) old.log between.log c.in-Ok.ensures.log)
+          (file_up file (front_size table name) (head_end table name read.front) between.log (g.S.Shelf.log c.read_rest.new.shelf) c.in-Err-read_rest.ensures.log);
     }
 
 pub returns-in-Err-check_head : goal.returns-in-Err-check_head
@@ -94,8 +103,11 @@ returns-in-Err-check_head g c =
     record {
       some = tt;
       told = tt;
+      placed = tt;
       refused = λ p is_p. told_head (λ whole. FailsAt table name whole p) table name file read.bytes.items cut held front is cut_is (c.in-Err-check_head.ensures.bad p is_p);
       only_reads = reads_other c.in-Err-check_head.fault old last (λ e. c.in-Err-check_head.ensures.read (ap Err e)) (reads_after ⊥ old between last (reads_well read old between c.in-Ok.ensures.only_reads) (reads_well c.in-Ok-read_rest.bytes between last c.in-Ok-read_rest.ensures.only_reads));
+      log = file_then file old.log between.log last.log (file_through file 0 (front_size table name) old.log between.log c.in-Ok.ensures.log)
+          (file_up file (front_size table name) (head_end table name front) between.log last.log c.in-Ok-read_rest.ensures.log);
     }
 
 pub returns : goal.returns
@@ -124,5 +136,8 @@ returns g c =
       };
       told = told_file table name file read.bytes.items cut held front (record { parts = c.in_ok-parts.parts; front = front; head = c.in-Ok-check_head.head }) is refl c.in_ok-parts.ensures cut_is c.in-Ok-check_head.ensures.ok;
       refused = tt;
+      placed = sections_in table name file front c.in-Ok-check_head.head c.in-Ok-check_head.ensures.placed;
       only_reads = reads_ended _ old last (reads_after ⊥ old between last (reads_well read old between c.in-Ok.ensures.only_reads) (reads_well c.in-Ok-read_rest.bytes between last c.in-Ok-read_rest.ensures.only_reads));
+      log = file_then file old.log between.log last.log (file_through file 0 (front_size table name) old.log between.log c.in-Ok.ensures.log)
+          (file_up file (front_size table name) (head_end table name front) between.log last.log c.in-Ok-read_rest.ensures.log);
     }

@@ -1,0 +1,29 @@
+-- The image of rows is that of these rows alone, and no part of it is wrong.
+use Rattle.std.proofs.Common.{◌≡◌, ◌∙◌, ℕ, List, Option, None, Some, IfSome, sym, subst, lit<}
+use Rattle.outside.specs.Files.{Files, bytes_of}
+use Rattle.values.specs.declared.value.Value.{Value}
+use Rattle.table_schema.specs.declared.table.Table.{Table}
+use Rattle.table_schema.specs.ValidTable.{IsValidTable}
+use Rattle.segment_file.specs.Image.{CanHold, image}
+use Rattle.segment_file.specs.Names.{IsSegmentName, file_of}
+use Rattle.segment_file.specs.Ordered.{ordered}
+use Rattle.segment_file.specs.declared.part.Part.{Part}
+use Rattle.segment_file.proofs.ImageTells.{images_tell}
+use Rattle.segment_check.specs.Checked.{IsNoImage}
+use Rattle.segment_check.proofs.ImagesPass.{images_pass}
+use Rattle.table_store.specs.Images.{IsNoStoredImage, IsStoredImage}
+use Rattle.table_store.specs.Segments.{HasSegment, LacksSegment}
+
+module _ (table : Table) (files : Files) (name : List ℕ) (rows : List (List Value)) (valid : IsValidTable table) (named : IsSegmentName name) (can : CanHold table rows) (stored : bytes_of (Some files) (file_of name) ≡ image 1 table name rows) where
+  pub none_wrong : (part : Part) → ¬ IsNoStoredImage table files name part
+  none_wrong part wrong = images_pass table name rows part valid named can (subst (λ bytes. IsNoImage table name bytes part) stored wrong)
+
+  pub one_image : (others : List (List Value)) → IsStoredImage table files name others → others ≡ ordered table.settings.sorted rows
+  one_image others is = sym is.in_order ∙ sym (images_tell table name rows others 1 1 valid named can is.can (lit< tt) (lit< tt) (sym stored ∙ is.image_is)).1
+
+-- a segment that is there is not lacking
+pub there_not_lacking : (held : Option Files) (name : List ℕ) (Q : Type 0) → HasSegment held name → IfSome held (λ files. LacksSegment (Some files) name → Q)
+there_not_lacking None name Q has = tt
+there_not_lacking (Some files) name Q (bytes, got) = λ lacks.
+    let no : ◌≡◌ {A = Option (List ℕ)} None (Some bytes) = sym lacks ∙ got in
+    absurd cc

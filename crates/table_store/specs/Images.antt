@@ -1,0 +1,18 @@
+-- Whether the file of a stored segment is the image of rows.
+use Rattle.std.specs.Prelude.{ℕ, List, Some}
+use Rattle.outside.specs.Files.{Files, bytes_of}
+use Rattle.values.specs.declared.value.Value.{Value}
+use Rattle.table_schema.specs.declared.table.Table.{Table}
+use Rattle.segment_file.specs.Names.{file_of}
+use Rattle.segment_file.specs.declared.part.Part.{Part}
+use Rattle.segment_check.specs.Checked.{IsImageOf, IsNoImage}
+
+-- the file of the segment of this name is the image of these rows, which are in its order
+abbrev pub IsStoredImage : Table → Files → List ℕ → List (List Value) → Type 0
+IsStoredImage table files name rows = IsImageOf table name (bytes_of (Some files)
+    (file_of name)) rows
+
+-- it is the image of no rows: this part is the first that is wrong
+abbrev pub IsNoStoredImage : Table → Files → List ℕ → Part → Type 0
+IsNoStoredImage table files name part = IsNoImage table name (bytes_of (Some files)
+    (file_of name)) part
