@@ -1,6 +1,6 @@
-//! Cases of heads or of whole files: `cut FROM TO OUTCOME` is the file cut to each of these lengths,
-//! and `alter FROM TO OUTCOME` the file with each of these bytes one more than it is. `# ` begins a
-//! comment.
+//! Cases of heads or of whole files: `cut FROM TO OUTCOME` is the file cut to each of these
+//! lengths, and `alter FROM TO OUTCOME` the file with each of these bytes one more than it is.
+//! `# ` begins a comment.
 ghost use Rattle.table_schema.specs.ValidTable.{IsValidTable};
 
 use crate::counting::CountingShelf;
