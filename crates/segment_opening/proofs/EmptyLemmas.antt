@@ -1,5 +1,5 @@
 -- Segments with a column of which no value satisfies a conjunct on it.
-use Rattle.std.proofs.Common.{◌≡◌, ◌∙◌, ◌≤◌, ◌<◌, ◌+◌, ◌==◌, ◌||◌, not, cond, ℕ, zero, suc, Bool, true, false, List, [], ◌∷◌, length, map, get_or, slice_get, Option, Some, None, IfSome, refl, sym, ap, subst, arith}
+use Rattle.std.proofs.Common.{◌≡◌, ◌∙◌, ◌≤◌, ◌<◌, ◌+◌, ◌==◌, ◌||◌, not, cond, ℕ, zero, suc, Bool, true, false, List, [], ◌∷◌, length, map, get_or, slice_get, Option, Some, None, refl, sym, ap, subst, arith}
 use Rattle.std.proofs.lemmas.Bool.{and_from, and_left, and_right, eq-eqb, eqb-true, ltb-true, or_left, or_right}
 use Rattle.std.proofs.lemmas.List.Folds.{list_any_at}
 use Rattle.std.proofs.lemmas.List.FromFn.{length-range_with_len, get_or-range_with_len}
@@ -27,7 +27,7 @@ use Rattle.segment_head.specs.Lookups.{LogsDictionary}
 use Rattle.segment_head.proofs.Composed.{made_count}
 use Rattle.segment_head.proofs.SectionLemmas.{if_some, section_at}
 use Rattle.segment_plan.specs.Matched.{is_filtered, is_on, matched, passes, values_of}
-use Rattle.segment_plan.specs.Plan.{is_emptied, leaves_none}
+use Rattle.segment_plan.specs.Plan.{leaves_none}
 use Rattle.segment_reads.specs.Logs.{DictionariesEnd, EndsBy, LogsThat}
 use Rattle.segment_opening.specs.Emptied.{IsEmptied, MatchesNone}
 use Rattle.segment_opening.proofs.NamedLemmas.{filtered_names, named_within}

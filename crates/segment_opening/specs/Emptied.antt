@@ -1,5 +1,5 @@
 -- Segments with a column of which no value satisfies the conjuncts on it.
-use Rattle.std.specs.Prelude.{◌≡◌, ℕ, true, [], Option}
+use Rattle.std.specs.Prelude.{◌≡◌, true, [], Option}
 use Rattle.outside.specs.Files.{Files}
 use Rattle.table_schema.specs.declared.query.BoundQuery.{BoundQuery}
 use Rattle.table_schema.specs.declared.query.Conjunct.{Conjunct}

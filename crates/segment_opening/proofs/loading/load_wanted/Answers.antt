@@ -1,4 +1,4 @@
-use Rattle.std.proofs.Common.{◌≡◌, ◌∙◌, false, get_or, ap, arith}
+use Rattle.std.proofs.Common.{◌∙◌, false, get_or, ap, arith}
 use Rattle.segment_opening.specs.Calls.{HasWanted}
 use Rattle.segment_opening.proofs.NamedLemmas.{AreMarkedLoaded, filtered_wanted, grouped_wanted, named_wanted}
 use Rattle.segment_opening.proofs.HeadLemmas.{ok_so}
