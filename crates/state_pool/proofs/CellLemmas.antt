@@ -11,7 +11,7 @@ use Rattle.agg_laws.specs.declared.states.AggState.{AggState}
 use Rattle.agg_laws.specs.declared.states.AggState.TheVariants.{Count}
 use Rattle.agg_laws.specs.States.{unit_of}
 use Rattle.agg_laws.specs.Rows.{units_of}
-use Rattle.state_pool.specs.Kept.{AreFree, Seats, TakesNumber}
+use Rattle.state_pool.specs.Kept.{AreFree, TakesCells, TakesNumber}
 use Rattle.state_pool.proofs.SlotLemmas.{past, none_some}
 
 -- ---- parts of a list
@@ -128,11 +128,11 @@ rows_of_set cells n q w at m x ne lt le = by (other_row q n ne)
     by (inr more) = ap (take m) (drop-set-lt (q * w) cells (n * w + at) x (omega (arith, row_after q n w (at + 1) more (omega (arith, lt)))))
 
 -- the number of a slot that nobody holds
-pub seated_again : (owner width : ℕ) (kinds : List AggKind) (number : ℕ) (holders : List (Option ℕ)) (cells : List AggState)
+pub taken_again : (owner width : ℕ) (kinds : List AggKind) (number : ℕ) (holders : List (Option ℕ)) (cells : List AggState)
     → length kinds ≤ width → length cells ≡ length holders * width → number < length holders → get_or holders number None ≡ None
-    → Seats owner width kinds number holders (set holders number (Some owner)) cells
+    → TakesCells owner width kinds number holders (set holders number (Some owner)) cells
     (take (number * width) cells ++ (units_of kinds ++ drop (number * width + length kinds) cells))
-seated_again owner width kinds number holders cells few len lt none =
+taken_again owner width kinds number holders cells few len lt none =
     let fits : number * width + length kinds ≤ length cells = omega (arith, row_before number (length holders) width (length kinds) lt few, len) in
     record {
       unheld = none;
@@ -149,11 +149,11 @@ seated_again owner width kinds number holders cells few len lt none =
     by fits q m le (inr lt) = part_after cells (units_of kinds) (number * width) (length kinds) (length-units kinds) fits (q * width) m (row_after q number width (length kinds) lt few)
 
 -- and a number that is new
-seated_whole : (owner width : ℕ) (kinds : List AggKind) (holders : List (Option ℕ)) (cells : List AggState)
+taken_whole : (owner width : ℕ) (kinds : List AggKind) (holders : List (Option ℕ)) (cells : List AggState)
     → length kinds ≤ width → length cells ≡ length holders * width
-    → Seats owner width kinds (length holders) holders (holders ++ Some owner ∷ []) cells
+    → TakesCells owner width kinds (length holders) holders (holders ++ Some owner ∷ []) cells
     (cells ++ (units_of kinds ++ replicate (width - length kinds) (Count 0)))
-seated_whole owner width kinds holders cells few len =
+taken_whole owner width kinds holders cells few len =
     let more = units_of kinds ++ replicate (width - length kinds) (Count 0) in
     record {
       unheld = past holders (length holders) (omega arith);
@@ -174,12 +174,12 @@ seated_whole owner width kinds holders cells few len =
         = omega (arith, length-append cells (units_of kinds ++ replicate (width - length kinds) (Count 0)), length-append (units_of kinds) (replicate (width - length kinds) (Count 0)), length-units kinds, length-replicate (width - length kinds) (Count 0), few, len) in
         sum ∙ sym (suc-mul (length holders) width) ∙ ap (λ n. n * width) (sym one)
 
-pub seated_new : (owner width : ℕ) (kinds : List AggKind) (holders : List (Option ℕ)) (cells : List AggState)
+pub taken_new : (owner width : ℕ) (kinds : List AggKind) (holders : List (Option ℕ)) (cells : List AggState)
     → length kinds ≤ width → length cells ≡ length holders * width
-    → Seats owner width kinds (length holders) holders (holders ++ Some owner ∷ []) cells
+    → TakesCells owner width kinds (length holders) holders (holders ++ Some owner ∷ []) cells
     ((cells ++ units_of kinds) ++ replicate (width - length kinds) (Count 0))
-seated_new owner width kinds holders cells few len = subst (Seats owner width kinds (length holders) holders (holders ++ Some owner ∷ []) cells)
-    (sym (append_assoc cells (units_of kinds) (replicate (width - length kinds) (Count 0)))) (seated_whole owner width kinds holders cells few len)
+taken_new owner width kinds holders cells few len = subst (TakesCells owner width kinds (length holders) holders (holders ++ Some owner ∷ []) cells)
+    (sym (append_assoc cells (units_of kinds) (replicate (width - length kinds) (Count 0)))) (taken_whole owner width kinds holders cells few len)
 
 -- ---- numbers that are free
 

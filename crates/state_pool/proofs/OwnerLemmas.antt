@@ -12,7 +12,7 @@ use Rattle.agg_laws.specs.declared.states.AggState.{AggState}
 use Rattle.agg_laws.specs.Rows.{units_of}
 use Rattle.state_pool.specs.declared.pool.Owner.{Owner}
 use Rattle.state_pool.specs.Pool.{Pool, Place, Slots, is_of, row_of, slots_of, kinds_at, quota_of, Changes, Takes, GivesBack, IsOut, states_at}
-use Rattle.state_pool.specs.Kept.{AreFree, Seats, TakesNumber, IsOwner, IsKept, HasRoom, pool_in, most_of, out_of}
+use Rattle.state_pool.specs.Kept.{AreFree, TakesCells, TakesNumber, IsOwner, IsKept, HasRoom, pool_in, most_of, out_of}
 use Rattle.state_pool.proofs.SlotLemmas.{put_here, put_there, gone_here, gone_there, same_slots, slot_at, none_some, held_by, not_held, other_held, holder_of}
 use Rattle.state_pool.proofs.CellLemmas.{in_range, more_free}
 
@@ -203,42 +203,42 @@ module _ (owners : List Owner) (holders : List (Option ℕ)) (width : ℕ) (cell
       }
 
   module _ (number : ℕ) (new_holders : List (Option ℕ)) (new_cells : List AggState) (new_free : List ℕ)
-      (seats : Seats i width own.kinds number holders new_holders cells new_cells) where
+      (cells_taken : TakesCells i width own.kinds number holders new_holders cells new_cells) where
     old_pool : Pool
     old_pool = pool_in owners holders width cells
 
     new_pool : Pool
     new_pool = pool_in (set owners i (counted owners holders width cells free kept i own lt is (own.held + 1))) new_holders width new_cells
 
-    seated : Moved number old_pool new_pool
+    moved : Moved number old_pool new_pool
     unfolding old_pool new_pool
-    seated = record {
+    moved = record {
       quotas = same_quotas owners holders width cells free kept i own lt is (own.held + 1);
       kinds = same_kinds owners holders width cells free kept i own lt is (own.held + 1);
       width = refl;
-      others = seats.others;
-      rows = seats.rows;
+      others = cells_taken.others;
+      rows = cells_taken.rows;
     }
 
     row_is : row_of new_pool i number ≡ units_of (kinds_at old_pool i)
     unfolding old_pool new_pool
     row_is = ap (λ (ks : List AggKind). take (length ks) (drop (number * width) new_cells))
         (ap (λ (kss : List (List AggKind)). get_or kss i []) (same_kinds owners holders width cells free kept i own lt is (own.held + 1)) ∙ own_kinds owners holders width cells free kept i own lt is)
-        ∙ seats.units ∙ ap units_of (sym (own_kinds owners holders width cells free kept i own lt is))
+        ∙ cells_taken.units ∙ ap units_of (sym (own_kinds owners holders width cells free kept i own lt is))
 
     pub takes : Takes i (record { owner = i; number = number }) (pool_in owners holders width cells)
         (pool_in (set owners i (counted owners holders width cells free kept i own lt is (own.held + 1))) new_holders width new_cells)
     unfolding old_pool new_pool
     takes = record {
       owner_is = refl;
-      new_number = λ other. not_held old_pool other number seats.unheld;
+      new_number = λ other. not_held old_pool other number cells_taken.unheld;
       changes = record {
-        quotas = seated.quotas;
-        kinds = seated.kinds;
-        own = puts number old_pool new_pool seated (kinds_fit owners holders width cells free kept) i (units_of (kinds_at old_pool i))
-            (held_by new_pool i number seats.own ∙ ap Some row_is);
-        others = λ other ne. stays number old_pool new_pool seated (kinds_fit owners holders width cells free kept) other
-            (other_held new_pool i other number seats.own ne ∙ sym (not_held old_pool other number seats.unheld));
+        quotas = moved.quotas;
+        kinds = moved.kinds;
+        own = puts number old_pool new_pool moved (kinds_fit owners holders width cells free kept) i (units_of (kinds_at old_pool i))
+            (held_by new_pool i number cells_taken.own ∙ ap Some row_is);
+        others = λ other ne. stays number old_pool new_pool moved (kinds_fit owners holders width cells free kept) other
+            (other_held new_pool i other number cells_taken.own ne ∙ sym (not_held old_pool other number cells_taken.unheld));
       };
     }
 
@@ -248,23 +248,23 @@ module _ (owners : List Owner) (holders : List (Option ℕ)) (width : ℕ) (cell
     unfolding old_pool new_pool
     taken_kept less numbers = kept_after owners holders width cells free kept i own lt is (own.held + 1) new_holders new_cells new_free
         (finite.insert (slots_of old_pool i) number (units_of (kinds_at old_pool i))) takes.changes
-        len (omega (arith, less)) (λ q owner e. known q owner e (cases_lt q number) (cases_lt number q)) numbers.frees seats.all_cells
+        len (omega (arith, less)) (λ q owner e. known q owner e (cases_lt q number) (cases_lt number q)) numbers.frees cells_taken.all_cells
         (omega (arith, numbers.count, out_set owners holders width cells free kept i own lt is (own.held + 1), kept.all_numbers))
         (omega (arith, numbers.few, kept.few_numbers, kept.all_numbers, some_left less))
       where
         len : own.held + 1 ≡ finite.len (finite.insert (slots_of old_pool i) number (units_of (kinds_at old_pool i)))
         len = ap (λ n. n + 1) (own_kept owners holders width cells free kept i own lt is).counted
-            ∙ sym (ap (λ (o : Option (List AggState)). cond (is_some o) (finite.len (slots_of old_pool i)) (finite.len (slots_of old_pool i) + 1)) (not_held old_pool i number seats.unheld))
+            ∙ sym (ap (λ (o : Option (List AggState)). cond (is_some o) (finite.len (slots_of old_pool i)) (finite.len (slots_of old_pool i) + 1)) (not_held old_pool i number cells_taken.unheld))
             ∙ sym (finite.len-insert nat_cmp_total (slots_of old_pool i) number (units_of (kinds_at old_pool i)))
 
         other : (q owner : ℕ) → get_or new_holders q None ≡ Some owner → q ≢ number → owner < length owners
-        other q owner e ne = kept.known q owner (sym (seats.others q ne) ∙ e)
+        other q owner e ne = kept.known q owner (sym (cells_taken.others q ne) ∙ e)
 
         known : (q owner : ℕ) → get_or new_holders q None ≡ Some owner → (q < number) ⊎ (number ≤ q) → (number < q) ⊎ (q ≤ number) → owner < length owners
         known q owner e (inl l) after = other q owner e (λ is. omega (arith, l, is))
         known q owner e (inr ge) (inl l) = other q owner e (λ is. omega (arith, l, is))
         known q owner e (inr ge) (inr le) = let same : number ≡ q = omega (arith, ge, le) in
-            let o : Some owner ≡ Some i = sym e ∙ sym (ap (λ q. get_or new_holders q None) same) ∙ seats.own in
+            let o : Some owner ≡ Some i = sym e ∙ sym (ap (λ q. get_or new_holders q None) same) ∙ cells_taken.own in
             let n : owner ≡ i = cc in omega (arith, n, lt)
 
   -- ---- a slot is given back

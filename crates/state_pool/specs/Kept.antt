@@ -48,7 +48,7 @@ pub record HasRoom (slots width holders_room cells_room free_room : ℕ) : Type 
   pub free_fit : slots ≤ free_room
 
 -- an owner has a number more, which nobody had, with the states of no value in its first cells
-pub record Seats (owner width : ℕ) (kinds : List AggKind) (number : ℕ)
+pub record TakesCells (owner width : ℕ) (kinds : List AggKind) (number : ℕ)
     (holders new_holders : List (Option ℕ)) (cells new_cells : List AggState) : Type 0 where
   pub unheld : slice_index_or holders number None ≡ None
   pub own : slice_index_or new_holders number None ≡ Some owner

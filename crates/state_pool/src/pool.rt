@@ -5,7 +5,7 @@ ghost use Rattle.std.specs.Prelude.{slice_get, slice_set, Some, None, IfOk, IfSo
 ghost use Rattle.std.specs.Borrow.{sem};
 ghost use Rattle.state_pool.specs.Pool.{IsNew, IsOut, Takes, GivesBack, Writes};
 ghost use Rattle.state_pool.specs.Pool.{quota_of, kinds_at, held, states_at, with_state};
-ghost use Rattle.state_pool.specs.Kept.{AreFree, HasRoom, Seats, TakesNumber};
+ghost use Rattle.state_pool.specs.Kept.{AreFree, HasRoom, TakesCells, TakesNumber};
 ghost use Rattle.state_pool.specs.Lent.{LendsState};
 
 use crate::slot::Slot;
@@ -89,7 +89,7 @@ impl SlotPool {
             return None;
         }
         own.held += 1;
-        let number = seat(
+        let number = take_number(
             &mut self.holders,
             &mut self.cells,
             &mut self.free,
@@ -162,7 +162,7 @@ fn total(quotas: &[u32]) -> usize
 }
 
 /// A number for a slot of an owner, with the states of no value: one that is free, or a new one.
-fn seat(
+fn take_number(
     holders: &mut Vec<Option<u16>>,
     cells: &mut Vec<AggState>,
     free: &mut Vec<u32>,
@@ -175,7 +175,7 @@ fn seat(
     requires free { AreFree holders.old.items free.old.items }
     requires room { free.old.items ≡ [] → HasRoom (length holders.old.items + 1) width
         (vec_capacity holders.old) (vec_capacity cells.old) (vec_capacity free.old) }
-    ensures seats { Seats owner width kinds.now result holders.old.items holders.new.items
+    ensures taken { TakesCells owner width kinds.now result holders.old.items holders.new.items
         cells.old.items cells.new.items }
     ensures numbers { TakesNumber holders.old.items holders.new.items free.old.items
         free.new.items }

@@ -2,7 +2,7 @@
 
 use std::marker::Model;
 
-/// A slot that an owner took from a pool.
+/// A slot that an owner took from a pool. One that is dropped and not given back stays its owner's.
 #[derive(Debug, Drop)]
 pub struct Slot {
     pub(crate) owner: u16,

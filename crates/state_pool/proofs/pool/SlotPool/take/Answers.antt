@@ -3,12 +3,12 @@ use Rattle.std.proofs.lemmas.List.{length-map}
 use Rattle.std.specs.Vec.{vec_capacity}
 use Rattle.state_pool.specs.declared.pool.Owner.{Owner}
 use Rattle.state_pool.specs.Pool.{Pool, Takes}
-use Rattle.state_pool.specs.Kept.{Seats, HasRoom, pool_in}
+use Rattle.state_pool.specs.Kept.{TakesCells, HasRoom, pool_in}
 use Rattle.state_pool.proofs.OwnerLemmas.{own_kept, room_for, takes, taken_kept, same_most}
 use Rattle.state_pool.proofs.pool.SlotPool.take.Goals as goal
 
-pub seat-number-requires-clause-room : goal.seat-number-requires-clause-room
-seat-number-requires-clause-room c none =
+pub take_number-number-requires-clause-room : goal.take_number-number-requires-clause-room
+take_number-number-requires-clause-room c none =
     let s = c.self.inside in
     let own = c.index_mut-own.result.now in
     let lt : c.args.owner < length s.owners.items = omega (arith, c.requires, ap (λ (p : Pool). length p.quotas) c.self.view_is, length-map s.owners.items (λ (o : Owner). o.quota)) in
@@ -23,10 +23,10 @@ invariant_of-self-2 c =
     let lt : c.args.owner < length s.owners.items = omega (arith, c.requires, ap (λ (p : Pool). length p.quotas) c.self.view_is, length-map s.owners.items (λ (o : Owner). o.quota)) in
     let k = own_kept s.owners.items s.holders.items s.width s.cells.items s.free.items c.self.invariant.0 c.args.owner own lt c.index_mut-own.ensures.value in
     let less : own.held < own.quota = omega (arith, k.within, c.if-own.false) in
-    let seats = subst (λ ks. Seats c.args.owner s.width ks c.seat-number.result s.holders.items c.seat-number.new.holders.items s.cells.items c.seat-number.new.cells.items) c.as_slice.ensures c.seat-number.ensures.seats in (
+    let cells_taken = subst (λ ks. TakesCells c.args.owner s.width ks c.take_number-number.result s.holders.items c.take_number-number.new.holders.items s.cells.items c.take_number-number.new.cells.items) c.as_slice.ensures c.take_number-number.ensures.taken in (
       taken_kept s.owners.items s.holders.items s.width s.cells.items s.free.items c.self.invariant.0 c.args.owner own lt c.index_mut-own.ensures.value
-          c.seat-number.result c.seat-number.new.holders.items c.seat-number.new.cells.items c.seat-number.new.free.items seats less c.seat-number.ensures.numbers,
-      c.seat-number.ensures.room _ (subst (λ most. HasRoom most s.width (vec_capacity s.holders) (vec_capacity s.cells) (vec_capacity s.free))
+          c.take_number-number.result c.take_number-number.new.holders.items c.take_number-number.new.cells.items c.take_number-number.new.free.items cells_taken less c.take_number-number.ensures.numbers,
+      c.take_number-number.ensures.room _ (subst (λ most. HasRoom most s.width (vec_capacity s.holders) (vec_capacity s.cells) (vec_capacity s.free))
           (sym (same_most s.owners.items s.holders.items s.width s.cells.items s.free.items c.self.invariant.0 c.args.owner own lt c.index_mut-own.ensures.value (own.held + 1))) c.self.invariant.1),
     )
 
@@ -35,8 +35,8 @@ returns-clause-taken c =
     let s = c.self.inside in
     let own = c.index_mut-own.result.now in
     let lt : c.args.owner < length s.owners.items = omega (arith, c.requires, ap (λ (p : Pool). length p.quotas) c.self.view_is, length-map s.owners.items (λ (o : Owner). o.quota)) in
-    let seats = subst (λ ks. Seats c.args.owner s.width ks c.seat-number.result s.holders.items c.seat-number.new.holders.items s.cells.items c.seat-number.new.cells.items) c.as_slice.ensures c.seat-number.ensures.seats in
-    let new = pool_in (set s.owners.items c.args.owner (record { quota = own.quota; held = own.held + 1; kinds = own.kinds })) c.seat-number.new.holders.items s.width c.seat-number.new.cells.items in
-    subst (λ p. Takes c.args.owner (record { owner = c.args.owner; number = c.seat-number.result }) p new) c.self.view_is
+    let cells_taken = subst (λ ks. TakesCells c.args.owner s.width ks c.take_number-number.result s.holders.items c.take_number-number.new.holders.items s.cells.items c.take_number-number.new.cells.items) c.as_slice.ensures c.take_number-number.ensures.taken in
+    let new = pool_in (set s.owners.items c.args.owner (record { quota = own.quota; held = own.held + 1; kinds = own.kinds })) c.take_number-number.new.holders.items s.width c.take_number-number.new.cells.items in
+    subst (λ p. Takes c.args.owner (record { owner = c.args.owner; number = c.take_number-number.result }) p new) c.self.view_is
     (takes s.owners.items s.holders.items s.width s.cells.items s.free.items c.self.invariant.0 c.args.owner own lt c.index_mut-own.ensures.value
-    c.seat-number.result c.seat-number.new.holders.items c.seat-number.new.cells.items c.seat-number.new.free.items seats)
+    c.take_number-number.result c.take_number-number.new.holders.items c.take_number-number.new.cells.items c.take_number-number.new.free.items cells_taken)
