@@ -1,5 +1,5 @@
 -- The rows of one key, and the places of rows that pass.
-use Rattle.std.proofs.Common.{◌≡◌, ◌∙◌, ◌<◌, ◌≤◌, ◌+◌, ◌-◌, ◌++◌, [], ℕ, Bool, List, length, map, get_or, ap, sym, arith, pos}
+use Rattle.std.proofs.Common.{◌≡◌, ◌∙◌, ◌<◌, ◌≤◌, ◌+◌, ◌-◌, ◌++◌, [], ℕ, Bool, List, length, get_or, ap, sym, arith, pos}
 use Rattle.std.proofs.lemmas.List.{get_or-map, length-map}
 use Rattle.values.specs.declared.value.Value.{Value}
 use Rattle.values.specs.declared.value.Value.TheVariants.{Whole}

@@ -1,5 +1,5 @@
 -- Tests on lanes.
-use Rattle.std.proofs.Common.{◌≡◌, ◌∙◌, ◌<◌, ◌≤◌, ◌+◌, ◌-◌, ◌%◌, ◌^◌, ℕ, Bool, false, cond, leb, List, map, length, get_or, replicate, ap, arith, inl, inr, w16, w32}
+use Rattle.std.proofs.Common.{◌≡◌, ◌∙◌, ◌<◌, ◌+◌, ◌-◌, ◌%◌, ◌^◌, ℕ, Bool, false, cond, leb, List, map, length, get_or, replicate, ap, arith, inl, inr, w16, w32}
 use lib.Lanes.{zip2, mask_l, top}
 use Rattle.std.specs.Int.{bit_at}
 use Rattle.std.proofs.lemmas.Simd.{bitmask_splat, zip2_splat, bit_mask_l}

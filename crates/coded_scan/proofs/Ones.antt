@@ -5,7 +5,7 @@ use lib.Count.{count_trailing_zeros, under}
 use native.Mathlib.Nat.{two-pow-succ}
 use Rattle.std.proofs.lemmas.Nat.Bits.{bit_at_lowest, bit_at-suc, bit_at_and, bit_at-trailing_zeros, same_from_bits}
 use Rattle.std.proofs.lemmas.Nat.{and_shr}
-use Rattle.std.proofs.lemmas.List.{take_more_set, length-take-le}
+use Rattle.std.proofs.lemmas.List.{take_more_set}
 use Rattle.std.proofs.lemmas.Bool.{cases_lt, eq-eqb, lt-ltb, ne_eqb, le-ltb}
 use Rattle.coded_scan.specs.Marks.{AreMarks, is_marked, ones, ones_in}
 use Rattle.coded_scan.specs.RowFilters.{passing}

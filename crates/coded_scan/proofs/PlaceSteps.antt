@@ -1,9 +1,8 @@
 -- The places of marked rows, one block after another.
-use Rattle.std.proofs.Common.{◌≡◌, ◌∙◌, ◌<◌, ◌≤◌, ◌+◌, ◌-◌, ◌++◌, ◌∷◌, [], ◌||◌, ℕ, zero, suc, Bool, true, false, cond, List, length, take, drop, set, refl, ap, sym, arith, append-nil, append_assoc}
+use Rattle.std.proofs.Common.{◌≡◌, ◌∙◌, ◌<◌, ◌≤◌, ◌+◌, ◌++◌, ◌∷◌, [], ℕ, zero, suc, Bool, false, cond, List, length, take, drop, refl, ap, arith, append_assoc}
 use Rattle.std.proofs.Math.Seq.{take-add}
-use Rattle.std.proofs.lemmas.List.{take-set-le, take_more_set, take_all, take_at, drop_at, take-take, take-append-le}
+use Rattle.std.proofs.lemmas.List.{take_all, take_at, drop_at, take-take, take-append-le}
 use Rattle.coded_scan.specs.RowFilters.{passing}
-use Rattle.coded_scan.proofs.RowFilterLemmas.{passing-both}
 
 -- where it holds of none there is no place
 pub passing-none : (holds : ℕ → Bool) (from n : ℕ) → ((at : ℕ) → at < n → holds (from + at) ≡ false) → passing holds from n ≡ []

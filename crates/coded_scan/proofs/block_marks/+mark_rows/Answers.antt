@@ -1,4 +1,4 @@
-use Rattle.std.proofs.Common.{◌≡◌, ◌∙◌, ◌<◌, ◌+◌, ◌&&◌, ◌||◌, ℕ, Bool, List, true, false, drop, get_or, length, map, ap, subst, sym, arith, rules}
+use Rattle.std.proofs.Common.{◌≡◌, ◌∙◌, ◌+◌, ◌&&◌, ◌||◌, ℕ, Bool, List, true, false, drop, get_or, length, map, ap, subst, sym, arith, rules}
 use Rattle.values.specs.Tests.{all_true, any_true}
 use Rattle.value_ids.specs.Ids.{has_id}
 use Rattle.coded_columns.specs.Ids.{seen_ids}

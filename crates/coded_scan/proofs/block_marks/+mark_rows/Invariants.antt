@@ -1,4 +1,4 @@
-use Rattle.std.proofs.Common.{◌≡◌, ◌<◌, ◌+◌, ◌&&◌, ◌||◌, ℕ, Bool, true, drop, length, map}
+use Rattle.std.proofs.Common.{◌≡◌, ◌+◌, ◌&&◌, ◌||◌, ℕ, Bool, true, drop, length, map}
 use Rattle.values.specs.Tests.{all_true, any_true}
 use Rattle.coded_scan.specs.Marks.{AreMarks}
 use Rattle.coded_scan.specs.RowFilters.{covers, lets}

@@ -1,4 +1,4 @@
-use Rattle.std.proofs.Common.{◌≡◌, ◌<◌, ◌≤◌, ◌+◌, ◌-◌, get_or, length, ap, sym, subst, arith, rules}
+use Rattle.std.proofs.Common.{◌≡◌, ◌+◌, ◌-◌, get_or, sym, subst, arith}
 use Rattle.coded_scan.proofs.RunLemmas.{run-more}
 use Rattle.coded_scan.proofs.id_run.run_at.Goals as goal
 

@@ -1,4 +1,4 @@
-use Rattle.std.proofs.Common.{◌≡◌, ◌∙◌, ◌≤◌, ◌+◌, ◌++◌, [], ℕ, Bool, List, length, map, take, drop, ap, sym, subst, arith}
+use Rattle.std.proofs.Common.{◌≡◌, ◌∙◌, ◌≤◌, ◌+◌, ◌++◌, ℕ, Bool, List, length, map, take, drop, ap, sym, subst, arith}
 use Rattle.table_schema.specs.declared.query.Agg.{Agg}
 use Rattle.value_ids.specs.Coding.{AreBelow}
 use Rattle.scan_engine.specs.Places.{rows_at}

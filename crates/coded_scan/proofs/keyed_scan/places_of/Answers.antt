@@ -1,4 +1,4 @@
-use Rattle.std.proofs.Common.{◌≡◌, ◌∙◌, ◌+◌, ◌++◌, ℕ, Bool, List, ap, arith}
+use Rattle.std.proofs.Common.{◌≡◌, ◌∙◌, ◌++◌, ℕ, Bool, List, ap, arith}
 use Rattle.coded_scan.specs.RowFilters.{all_let, passing}
 use Rattle.coded_scan.proofs.AddSteps.{blocks-enough}
 use Rattle.coded_scan.proofs.KeyedMerges.{passed-more}

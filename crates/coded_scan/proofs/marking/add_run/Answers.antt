@@ -1,4 +1,4 @@
-use Rattle.std.proofs.Common.{◌≡◌, ◌∙◌, ◌<◌, ◌≤◌, ◌+◌, ◌*◌, ◌||◌, ℕ, Bool, get_or, length, set, bit_or, ap, subst, sym, arith, le_refl}
+use Rattle.std.proofs.Common.{◌≡◌, ◌∙◌, ◌+◌, ◌*◌, ◌||◌, ℕ, Bool, get_or, length, bit_or, subst, sym, arith, le_refl}
 use Rattle.std.proofs.lemmas.List.{get_or-set_other}
 use Rattle.coded_columns.specs.Ids.{seen_ids}
 use Rattle.coded_scan.specs.Marks.{HasMarks, is_between, is_marked}

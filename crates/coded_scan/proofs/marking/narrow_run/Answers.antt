@@ -1,5 +1,5 @@
-use Rattle.std.proofs.Common.{◌+◌, ◌∙◌, ap, cond, get_or, length, arith, Fits, w16}
-use Rattle.std.proofs.lemmas.Simd.{Each1-get_or, get_or-chunk}
+use Rattle.std.proofs.Common.{◌+◌, ◌∙◌, ap, cond, get_or, length, arith}
+use Rattle.std.proofs.lemmas.Simd.{get_or-chunk}
 use Rattle.coded_scan.specs.Marks.{is_between}
 use Rattle.coded_scan.proofs.MarkSteps.{same-run, whole-marks}
 use Rattle.coded_scan.proofs.marking.narrow_run.Goals as goal

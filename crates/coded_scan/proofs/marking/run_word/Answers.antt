@@ -1,4 +1,4 @@
-use Rattle.std.proofs.Common.{◌≡◌, ◌<◌, ◌+◌, ◌∙◌, ◌≤◌, List, ℕ, ap, cond, get_or, length, arith, sym, subst}
+use Rattle.std.proofs.Common.{◌+◌, ◌∙◌, List, ℕ, ap, cond, get_or, length, arith, sym, subst}
 use Rattle.std.proofs.lemmas.Simd.{get_or-chunk}
 use Rattle.coded_columns.specs.Ids.{seen_ids}
 use Rattle.coded_scan.specs.Marks.{HasMarks, is_between, is_marked}

@@ -1,4 +1,4 @@
-use Rattle.std.proofs.Common.{◌≡◌, ◌∙◌, ◌+◌, ℕ, List, ap, length, subst, sym, arith}
+use Rattle.std.proofs.Common.{◌+◌, ℕ, List, ap, length, subst, sym, arith}
 use Rattle.coded_scan.specs.Marks.{AreMarks}
 use Rattle.coded_scan.specs.RowFilters.{all_let}
 use Rattle.coded_scan.proofs.selection.put_block.Goals as goal
