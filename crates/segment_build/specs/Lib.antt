@@ -10,3 +10,4 @@ pub mod ComparedLaws
 pub mod FileLaws
 pub mod PieceLaws
 pub mod Made
+pub mod Merging
