@@ -55,7 +55,7 @@ fn build_in<I: Shelf, D: Depot>(
         (devices I.Shelf D.Shelf inputs.new depot.new) result }
 {
     let columns = read_rows(alloc, csv, table, inputs)?;
-    publish(alloc, table, name, &columns, depot)
+    publish(alloc, table, name, columns, depot)
 }
 
 // Publishes a segment of rows, where their star-trees are not too large. The reply is made before
@@ -64,14 +64,14 @@ fn publish<D: Depot>(
     alloc: Global,
     table: &Table,
     name: &str,
-    columns: &Columns,
+    columns: Columns,
     depot: &mut D,
 ) -> Result<Bytes, Stop>
     requires valid { IsValidTable table.now }
     requires name { IsSegmentName name.now }
-    requires width { length columns.now.columns ≡ length table.now.schema.fields }
-    requires rows { AreRows table.now.schema.fields (rows_of columns.now) }
-    ensures publishes { Publishes table.now name.now (rows_of columns.now)
+    requires width { length columns.columns ≡ length table.now.schema.fields }
+    requires rows { AreRows table.now.schema.fields (rows_of columns) }
+    ensures publishes { Publishes table.now name.now (rows_of columns)
         (seen D.Shelf depot.old) (seen D.Shelf depot.new) result }
     ensures reads_still { D.read_faults depot.new ≡ D.read_faults depot.old }
     ensures writes_still { ¬ IsErrOf result (Stop.Fault Fault.Write) →

@@ -49,7 +49,7 @@ pub fn build_of_csv<D: Depot>(
         Ok(columns) => columns,
         Err(fault) => return Err(Fault::from(fault)),
     };
-    match publish(alloc, depot, table, name, &columns) {
+    match publish(alloc, depot, table, name, columns) {
         Ok(()) => Ok(()),
         Err(fault) => Err(Fault::Store(fault)),
     }
@@ -102,18 +102,18 @@ fn publish<D: Depot>(
     depot: &mut D,
     table: &Table,
     name: &str,
-    columns: &Columns,
+    columns: Columns,
 ) -> Result<(), StoreFault>
     requires valid { IsValidTable table.now }
     requires name { IsSegmentName name.now }
-    requires width { length columns.now.columns ≡ length table.now.schema.fields }
-    requires rows { AreRows table.now.schema.fields (rows_of columns.now) }
+    requires width { length columns.columns ≡ length table.now.schema.fields }
+    requires rows { AreRows table.now.schema.fields (rows_of columns) }
     ensures published { OnOk result (D.held depot.new ≡ with_file (file_of name.now)
-        (image 1 table.now name.now (rows_of columns.now)) (D.held depot.old)) }
-    ensures fits { OnOk result (TreesFit table.now (rows_of columns.now)) }
+        (image 1 table.now name.now (rows_of columns)) (D.held depot.old)) }
+    ensures fits { OnOk result (TreesFit table.now (rows_of columns)) }
     ensures kept { OnErr result (D.held depot.new ≡ D.held depot.old) }
     ensures too_large { IsErrOf result StoreFault.TooLarge →
-        trees_fit table.now (rows_of columns.now) ≡ false }
+        trees_fit table.now (rows_of columns) ≡ false }
     ensures only { OnErr result (IsErrOf result StoreFault.TooLarge
         ⊎ IsErrOf result StoreFault.WriteFault ⊎ IsErrOf result StoreFault.NoMemory) }
     ensures only_writes { OnlyWrites (IsErrOf result StoreFault.WriteFault) incoming

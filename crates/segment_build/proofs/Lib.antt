@@ -11,3 +11,6 @@ pub mod TreeMerging
 pub mod Sizes
 pub mod Built
 pub mod Growing
+pub mod MadeLemmas
+pub mod RangeLemmas
+pub mod MergeLemmas

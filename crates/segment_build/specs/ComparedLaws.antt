@@ -5,7 +5,7 @@ use Rattle.outside.specs.Counts.{Rose}
 use Rattle.outside.specs.Files.{Files, bytes_of}
 use Rattle.outside.specs.Seen.{OnlyReads, Seen}
 use Rattle.segment_build.specs.declared.fault.CompareFault.{CompareFault}
-use Rattle.segment_build.specs.declared.fault.CompareFault.TheVariants.{Differs, Failed}
+use Rattle.segment_build.specs.declared.fault.CompareFault.TheVariants.{Differs, Failed, NoMemory}
 use Rattle.segment_build.specs.Compared.{Compared, Compares, DifferAt, IsCommon}
 use Rattle.segment_build.specs.FileReads.{LogsFile, file_then}
 
@@ -189,3 +189,21 @@ compares_stopped a b fault x y s t first =
       only_reads = first.only_reads;
       log = first.log;
     }
+
+-- where there is no memory for some, nothing is compared
+pub compares_declined : (a : List ℕ) (x : Compared) (s : Seen)
+    → Compares a (Err NoMemory) x s x s
+compares_declined a x s = record {
+  file = refl;
+  moved = λ small. tt;
+  same = λ small. tt;
+  differs = λ small is. absurd cc;
+  only_reads = record {
+    held = refl;
+    parts = refl;
+    writes = refl;
+    later = omega arith;
+    rose = λ fails. absurd cc;
+    unchanged = λ fine. refl;
+  };
+}

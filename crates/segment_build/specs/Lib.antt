@@ -11,3 +11,4 @@ pub mod ComparedLaws
 pub mod FileLaws
 pub mod PieceLaws
 pub mod Made
+pub mod Merging

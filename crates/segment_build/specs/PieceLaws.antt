@@ -3,7 +3,7 @@ use Rattle.std.proofs.Common.{◌≡◌, ◌∙◌, ℕ, List, [], ◌++◌, Opt
 use Rattle.outside.specs.Calls.{AppendsToPart, Seen, Writes}
 use Rattle.outside.specs.Counts.{Rose}
 use Rattle.outside.specs.declared.depot.DepotFault.{DepotFault}
-use Rattle.outside.specs.declared.depot.DepotFault.TheVariants.{Failed}
+use Rattle.outside.specs.declared.depot.DepotFault.TheVariants.{Failed, NoMemory}
 use Rattle.outside.specs.Files.{Files, SameBut, bytes_of, name_order, with_file}
 use Rattle.std.specs.FinMap as map
 use Rattle.std.specs.Ordering.{eq_by_cmp}
@@ -116,6 +116,22 @@ pub appends_joined : (part a b : List ℕ) (r : Result (Unit {0}) DepotFault)
     → AppendsToPart part (a ++ b) r s u
 appends_joined part a b r s t u first then = grows_last r part b (a ++ b) s t u
     (grown_by part a b s t (has_grown part a s t first)) then
+
+-- where there is no memory for some, nothing is added
+pub appends_declined : (part a : List ℕ) (s : Seen) → AppendsToPart part a (Err NoMemory) s s
+appends_declined part a s = record {
+  appended = tt;
+  unknown = same_but part s.parts;
+  held = refl;
+  writes = record {
+    log = refl;
+    reads = refl;
+    later = omega arith;
+    rose = λ fails. absurd cc;
+    unchanged = λ fine. refl;
+  };
+  never_missing = λ is. absurd cc;
+}
 
 -- and where some fail, so do all that begin with them
 pub appends_stopped : (part a b : List ℕ) (fault : DepotFault) (s t : Seen)

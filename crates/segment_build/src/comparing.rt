@@ -53,7 +53,8 @@ impl Comparing {
 
 impl<S: Shelf> Taker<S> for Comparing {
     ghost use Rattle.segment_build.specs.Compared.{Compares};
-    ghost use Rattle.segment_build.specs.ComparedLaws.{compares_joined, compares_stopped};
+    ghost use Rattle.segment_build.specs.declared.fault.CompareFault.TheVariants as faults;
+    ghost use Rattle.segment_build.specs.ComparedLaws.{compares_declined, compares_joined, compares_stopped};
 
     type Fault = CompareFault;
 
@@ -74,6 +75,14 @@ impl<S: Shelf> Taker<S> for Comparing {
         }
         Ok(())
     }
+
+    ghost no_memory = { faults.NoMemory };
+
+    fn no_memory() -> CompareFault {
+        CompareFault::NoMemory
+    }
+
+    ghost declines = { λ a x s. compares_declined a x s };
 
     ghost joins = { λ a b r x y z s t u. compares_joined a b r x y z s t u };
 

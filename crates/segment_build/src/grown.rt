@@ -1,40 +1,38 @@
 //! The sections of star-trees.
 ghost use Rattle.std.specs.Prelude.{◌≡◌, ◌<◌, ◌≤◌, ◌^◌, ◌++◌, ◌∷◌, [], length, OnOk};
 ghost use Rattle.star_file.specs.Bytes.{doc_bytes, nodes_section};
+ghost use Rattle.segment_build.specs.Made.{each_bytes};
 
-use agg_laws::TreeShape;
-use outside::{Bytes, NoMemory, Seq};
-use star_file::{StarTree, width_of, write_docs, write_nodes};
+use crate::docs::TreeDocs;
+use crate::section::MadeSection;
+use outside::{NoMemory, Seq};
+use star_file::{Nodes, StarTree, write_nodes};
 use std::alloc::Global;
 
 /// The sections of star-trees: of each its nodes, and its documents.
 #[derive(Drop)]
 pub struct Grown {
-    pub nodes: Vec<Bytes>,
-    pub stars: Vec<Bytes>,
+    pub nodes: Vec<MadeSection>,
+    pub stars: Vec<MadeSection>,
 }
 
-/// Adds the sections of a tree of this shape.
-pub fn push_tree(
-    alloc: Global,
-    shape: &TreeShape,
-    tree: &StarTree,
-    grown: &mut Grown,
-) -> Result<(), NoMemory>
-    requires shape { length shape.now.kinds ≤ 16 }
-    requires at_most { length tree.now.docs.docs < 2 ^ 32 }
-    requires kinds { length tree.now.docs.kinds ≤ 16 }
-    ensures nodes { OnOk result (grown.new.nodes.items ≡ grown.old.nodes.items
-        ++ nodes_section (length tree.now.docs.docs) tree.now.nodes ∷ []) }
-    ensures stars { OnOk result (grown.new.stars.items ≡ grown.old.stars.items
-        ++ doc_bytes tree.now.docs.docs ∷ []) }
+/// Adds the sections of a tree. Its nodes are written, and its documents when they are given.
+pub(crate) fn push_tree(alloc: Global, tree: StarTree, grown: &mut Grown) -> Result<(), NoMemory>
+    requires at_most { length tree.docs.docs < 2 ^ 32 }
+    requires kinds { length tree.docs.kinds ≤ 16 }
+    ensures nodes { OnOk result (each_bytes grown.new.nodes.items ≡
+        each_bytes grown.old.nodes.items ++ nodes_section (length tree.docs.docs) tree.nodes ∷ []) }
+    ensures stars { OnOk result (each_bytes grown.new.stars.items
+        ≡ each_bytes grown.old.stars.items ++ doc_bytes tree.docs.docs ∷ []) }
 {
     let mut nodes = Vec::new(alloc);
-    write_nodes(tree, &mut nodes)?;
-    let room = tree.docs.len().saturating_mul(width_of(shape));
-    let mut stars = Vec::with_capacity(alloc, room)?;
-    write_docs(tree, &mut stars)?;
-    grown.nodes.push(Seq::from_vec(nodes))?;
-    grown.stars.push(Seq::from_vec(stars))?;
+    write_nodes(&tree, &mut nodes)?;
+    let StarTree { docs, nodes: _ } = tree;
+    let tree = StarTree {
+        docs,
+        nodes: Nodes::new(alloc),
+    };
+    grown.nodes.push(MadeSection::Stands(Seq::from_vec(nodes)))?;
+    grown.stars.push(MadeSection::Docs(TreeDocs { tree }))?;
     Ok(())
 }

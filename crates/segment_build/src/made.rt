@@ -3,15 +3,16 @@ ghost use Rattle.outside.specs.Seen.{seen};
 ghost use Rattle.segment_build.specs.Made.{file_bytes};
 
 use crate::Taker;
+use crate::section::MadeSection;
 use crate::taking::give_bytes;
-use outside::{Bytes, Shelf};
+use outside::Shelf;
 use std::alloc::Global;
 
 /// A segment's file as it is made: its front, and its sections in their order.
 #[derive(Drop)]
 pub struct MadeFile {
     pub front: Vec<u8>,
-    pub sections: Vec<Bytes>,
+    pub sections: Vec<MadeSection>,
 }
 
 impl MadeFile {
@@ -30,7 +31,7 @@ impl MadeFile {
             return Err(fault);
         }
         for section in sections {
-            if let Err(fault) = give_bytes(alloc, taker, shelf, section.as_slice()) {
+            if let Err(fault) = section.give(alloc, taker, shelf) {
                 return Err(fault);
             }
         }

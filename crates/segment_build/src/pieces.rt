@@ -11,8 +11,9 @@ pub(crate) struct Appending;
 
 impl<D: Depot> Taker<D> for Appending {
     ghost use Rattle.outside.specs.Calls.{AppendsToPart};
+    ghost use Rattle.outside.specs.declared.depot.DepotFault.TheVariants as depot;
     ghost use Rattle.segment_build.specs.Publishing.{incoming};
-    ghost use Rattle.segment_build.specs.PieceLaws.{appends_joined, appends_stopped};
+    ghost use Rattle.segment_build.specs.PieceLaws.{appends_declined, appends_joined, appends_stopped};
 
     type Fault = DepotFault;
 
@@ -21,6 +22,14 @@ impl<D: Depot> Taker<D> for Appending {
     fn take(&mut self, alloc: Global, shelf: &mut D, piece: &[u8]) -> Result<(), DepotFault> {
         shelf.append(alloc, INCOMING, piece)
     }
+
+    ghost no_memory = { depot.NoMemory };
+
+    fn no_memory() -> DepotFault {
+        DepotFault::NoMemory
+    }
+
+    ghost declines = { λ a _ s. appends_declined incoming a s };
 
     ghost joins = { λ a b r _ _ _ s t u. appends_joined incoming a b r s t u };
 

@@ -10,7 +10,7 @@ ghost use Rattle.segment_build.specs.Made.{file_bytes};
 ghost use Rattle.segment_build.specs.Publishing.{incoming};
 ghost use Rattle.segment_build.specs.Growing.{IsTooLarge, TreesFit};
 
-use crate::build::make_file;
+use crate::build::make_own_file;
 use crate::pieces::Appending;
 use crate::taking::give_bytes;
 use crate::{BuildFault, MadeFile, columns_of};
@@ -23,30 +23,31 @@ use values::{Columns, Rows};
 /// The part that each file is written as before it is published.
 pub const INCOMING: &str = "incoming";
 
-/// Publishes the file of a segment of these rows, which are kept column by column.
+/// Publishes the file of a segment of these rows, which are kept column by column. The
+/// columns are let go as soon as they are coded.
 pub fn write_columns<D: Depot>(
     alloc: Global,
     depot: &mut D,
     table: &Table,
     name: &str,
-    columns: &Columns,
+    columns: Columns,
 ) -> Result<(), BuildFault>
     requires valid { IsValidTable table.now }
     requires name { IsSegmentName name.now }
-    requires width { length columns.now.columns ≡ length table.now.schema.fields }
-    requires rows { AreRows table.now.schema.fields (rows_of columns.now) }
+    requires width { length columns.columns ≡ length table.now.schema.fields }
+    requires rows { AreRows table.now.schema.fields (rows_of columns) }
     ensures published { OnOk result (D.held depot.new ≡ with_file (file_of name.now)
-        (image 1 table.now name.now (rows_of columns.now)) (D.held depot.old)) }
+        (image 1 table.now name.now (rows_of columns)) (D.held depot.old)) }
     ensures kept { OnErr result (D.held depot.new ≡ D.held depot.old) }
     ensures gone { OnOk result (D.parts depot.new ≡ without_file incoming (D.parts depot.old)) }
     ensures only_writes { OnlyWrites (IsErrOf result BuildFault.WriteFault) incoming
         (seen D.Shelf depot.old) (seen D.Shelf depot.new) }
-    ensures fits { OnOk result (TreesFit table.now (rows_of columns.now)) }
+    ensures fits { OnOk result (TreesFit table.now (rows_of columns)) }
     ensures too_large { IfErr result (λ fault. (tree : ℕ) → fault ≡ BuildFault.TooLarge tree →
-        IsTooLarge table.now (rows_of columns.now) tree) }
+        IsTooLarge table.now (rows_of columns) tree) }
 {
     let file = segment_file_name(alloc, name)?;
-    let made = match make_file(alloc, table, name, columns) {
+    let made = match make_own_file(alloc, table, name, columns) {
         Ok(made) => made,
         Err(fault) => return Err(fault),
     };
@@ -80,7 +81,7 @@ pub fn write_segment<D: Depot>(
         IsTooLarge table.now rows.now tree) }
 {
     let columns = columns_of(alloc, table.schema.fields.as_slice(), rows)?;
-    write_columns(alloc, depot, table, name, &columns)
+    write_columns(alloc, depot, table, name, columns)
 }
 
 /// Puts bytes under a name, as the one part that files are published by.

@@ -6,6 +6,7 @@ ghost use Rattle.dictionary.specs.Spelling.{spelling};
 ghost use Rattle.bit_column.specs.Column.{spelled, width_of};
 ghost use Rattle.bit_column.specs.Postings.{inverted, ranged};
 ghost use Rattle.bit_column.specs.SortedRuns.{sorted_runs};
+ghost use Rattle.segment_build.specs.Made.{each_bytes, section_bytes};
 ghost use Rattle.segment_build.specs.Sections.{in_order, made_of, only, with_column};
 ghost use Rattle.values.specs.Columns.{rows_of};
 ghost use Rattle.segment_file.specs.Ordered.{ordered};
@@ -15,10 +16,11 @@ ghost use Rattle.segment_build.specs.Fitting.{AreOfTable};
 use crate::coding::{RowOrder, coded_column};
 use crate::grown::Grown;
 use crate::indexes::{Indexes, indexes_at};
+use crate::section::MadeSection;
 use bit_column::width_for;
 use dictionary::Dictionary;
 use inverted_lists::{write_inverted, write_ranged, write_sorted};
-use outside::{Bytes, NoMemory, Seq};
+use outside::{NoMemory, Seq};
 use segment_file::push_ends;
 use std::alloc::Global;
 use std::marker::Model;
@@ -32,25 +34,26 @@ use values::Columns;
 #[derive(Drop)]
 pub struct Sections {
     bounds: Vec<u8>,
-    dictionaries: Vec<Bytes>,
-    forwards: Vec<Bytes>,
-    runs: Vec<Bytes>,
-    lists: Vec<Bytes>,
-    ranges: Vec<Bytes>,
+    dictionaries: Vec<MadeSection>,
+    forwards: Vec<MadeSection>,
+    runs: Vec<MadeSection>,
+    lists: Vec<MadeSection>,
+    ranges: Vec<MadeSection>,
 }
 
 impl Model for Sections {
+    ghost use Rattle.segment_build.specs.Made.{each_bytes};
     ghost use Rattle.segment_build.specs.Sections.{Made};
 
     ghost Value = { Made };
 
     ghost view = { λ s. record {
       bounds = s.bounds.items;
-      dictionaries = s.dictionaries.items;
-      forwards = s.forwards.items;
-      runs = s.runs.items;
-      lists = s.lists.items;
-      ranges = s.ranges.items;
+      dictionaries = each_bytes s.dictionaries.items;
+      forwards = each_bytes s.forwards.items;
+      runs = each_bytes s.runs.items;
+      lists = each_bytes s.lists.items;
+      ranges = each_bytes s.ranges.items;
     } };
 }
 
@@ -102,9 +105,9 @@ impl Sections {
     }
 
     /// All of them with those of the star-trees, in the order of the file.
-    pub(crate) fn into_list(self, alloc: Global, trees: Grown) -> Result<Vec<Bytes>, NoMemory>
-        ensures { IfOk result (λ all. all.items
-            ≡ in_order self trees.nodes.items trees.stars.items) }
+    pub(crate) fn into_list(self, alloc: Global, trees: Grown) -> Result<Vec<MadeSection>, NoMemory>
+        ensures { IfOk result (λ all. each_bytes all.items
+            ≡ in_order self (each_bytes trees.nodes.items) (each_bytes trees.stars.items)) }
     {
         let mut sections = self;
         let mut trees = trees;
@@ -119,13 +122,13 @@ impl Sections {
         &mut self,
         alloc: Global,
         trees: &mut Grown,
-        all: &mut Vec<Bytes>,
+        all: &mut Vec<MadeSection>,
     ) -> Result<(), NoMemory>
-        ensures { OnOk result (all.new.items ≡ all.old.items
-            ++ in_order self.old trees.old.nodes.items trees.old.stars.items) }
+        ensures { OnOk result (each_bytes all.new.items ≡ each_bytes all.old.items ++ in_order
+            self.old (each_bytes trees.old.nodes.items) (each_bytes trees.old.stars.items)) }
     {
         let bounds = replace(&mut self.bounds, Vec::new(alloc));
-        all.push(Seq::from_vec(bounds))?;
+        all.push(MadeSection::Stands(Seq::from_vec(bounds)))?;
         all.append(&mut self.dictionaries)?;
         all.append(&mut trees.nodes)?;
         all.append(&mut self.forwards)?;
@@ -169,22 +172,22 @@ struct CodedIds<'a> {
     ghost below: { AreBelow count ids.now },
 }
 
-fn dictionary_section(alloc: Global, dictionary: &Dictionary) -> Result<Bytes, NoMemory>
-    ensures { IfOk result (λ bytes. bytes ≡ spelling dictionary.now) }
+fn dictionary_section(alloc: Global, dictionary: &Dictionary) -> Result<MadeSection, NoMemory>
+    ensures { IfOk result (λ section. section_bytes section ≡ spelling dictionary.now) }
 {
     let mut out = Vec::new(alloc);
     dictionary.write(&mut out)?;
-    Ok(Seq::from_vec(out))
+    Ok(MadeSection::Stands(Seq::from_vec(out)))
 }
 
 // The forward index of these ids.
-fn forward_section(alloc: Global, coded: CodedIds<'_>) -> Result<Bytes, NoMemory>
-    ensures { IfOk result (λ bytes. bytes
+fn forward_section(alloc: Global, coded: CodedIds<'_>) -> Result<MadeSection, NoMemory>
+    ensures { IfOk result (λ section. section_bytes section
         ≡ spelled (width_of coded.entry.count) coded.entry.ids.now) }
 {
     let mut out = Vec::new(alloc);
     bit_column::write(coded.ids, width_for(coded.count), &mut out)?;
-    Ok(Seq::from_vec(out))
+    Ok(MadeSection::Stands(Seq::from_vec(out)))
 }
 
 // Adds the section of the sorted column, where the ids are its.
@@ -192,10 +195,10 @@ fn push_runs(
     alloc: Global,
     is_sorted: bool,
     coded: CodedIds<'_>,
-    out: &mut Vec<Bytes>,
+    out: &mut Vec<MadeSection>,
 ) -> Result<(), NoMemory>
     requires { is_sorted ≡ true → IsNonDecreasing coded.ids.now }
-    ensures { OnOk result (out.new.items ≡ out.old.items
+    ensures { OnOk result (each_bytes out.new.items ≡ each_bytes out.old.items
         ++ only is_sorted (sorted_runs coded.entry.count coded.entry.ids.now)) }
 {
     if !is_sorted {
@@ -203,7 +206,7 @@ fn push_runs(
     }
     let mut bytes = Vec::new(alloc);
     write_sorted(coded.ids, coded.count, &mut bytes)?;
-    out.push(Seq::from_vec(bytes))?;
+    out.push(MadeSection::Stands(Seq::from_vec(bytes)))?;
     Ok(())
 }
 
@@ -212,9 +215,9 @@ fn push_lists(
     alloc: Global,
     is_inverted: bool,
     coded: CodedIds<'_>,
-    out: &mut Vec<Bytes>,
+    out: &mut Vec<MadeSection>,
 ) -> Result<(), NoMemory>
-    ensures { OnOk result (out.new.items ≡ out.old.items
+    ensures { OnOk result (each_bytes out.new.items ≡ each_bytes out.old.items
         ++ only is_inverted (inverted coded.entry.count coded.entry.ids.now)) }
 {
     if !is_inverted {
@@ -222,7 +225,7 @@ fn push_lists(
     }
     let mut bytes = Vec::new(alloc);
     write_inverted(coded.ids, coded.count, &mut bytes)?;
-    out.push(Seq::from_vec(bytes))?;
+    out.push(MadeSection::Stands(Seq::from_vec(bytes)))?;
     Ok(())
 }
 
@@ -231,9 +234,9 @@ fn push_ranges(
     alloc: Global,
     is_ranged: bool,
     coded: CodedIds<'_>,
-    out: &mut Vec<Bytes>,
+    out: &mut Vec<MadeSection>,
 ) -> Result<(), NoMemory>
-    ensures { OnOk result (out.new.items ≡ out.old.items
+    ensures { OnOk result (each_bytes out.new.items ≡ each_bytes out.old.items
         ++ only is_ranged (ranged coded.entry.count coded.entry.ids.now)) }
 {
     if !is_ranged {
@@ -241,6 +244,6 @@ fn push_ranges(
     }
     let mut bytes = Vec::new(alloc);
     write_ranged(coded.ids, coded.count, &mut bytes)?;
-    out.push(Seq::from_vec(bytes))?;
+    out.push(MadeSection::Stands(Seq::from_vec(bytes)))?;
     Ok(())
 }

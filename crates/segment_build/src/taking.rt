@@ -25,6 +25,14 @@ pub trait Taker<S: Shelf> {
         ensures { takes piece.now result self.old (seen S.Shelf shelf.old)
             self.new (seen S.Shelf shelf.new) };
 
+    ghost no_memory: { Self.Fault };
+
+    /// Why a piece is not taken that was not made, for want of memory.
+    fn no_memory() -> Self::Fault
+        ensures { result ≡ no_memory };
+
+    ghost declines: { (a : List ℕ) (x : Self) (s : Seen) → takes a (Err no_memory) x s x s };
+
     ghost joins: { (a b : List ℕ) (r : Result (Unit {0}) Self.Fault) (x y z : Self) (s t u : Seen)
         → takes a (Ok tt) x s y t → takes b r y t z u → takes (a ++ b) r x s z u };
 

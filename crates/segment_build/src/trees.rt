@@ -1,22 +1,21 @@
 //! The star-trees of a segment are built, one after the other.
-ghost use Rattle.std.specs.Prelude.{◌≡◌, ◌<◌, ◌≤◌, length, map, Err, IfOk, IsErrOf, OnOk};
+ghost use Rattle.std.specs.Prelude.{◌≡◌, ◌<◌, ◌≤◌, List, length, map, IfOk};
 ghost use Rattle.std.specs.List.{All};
-ghost use Rattle.values.specs.Columns.{rows_of};
+ghost use Rattle.values.specs.declared.value.Value.{Value};
+ghost use Rattle.values.specs.Columns.{ListedColumns, rows_of};
 ghost use Rattle.table_schema.specs.ValidSettings.{IsValidTree};
 ghost use Rattle.agg_laws.specs.Merged.{weights};
 ghost use Rattle.agg_laws.specs.Numbers.{most_stored};
 ghost use Rattle.agg_laws.specs.Rows.{merged_rows, row_weight};
 ghost use Rattle.agg_laws.specs.Tree.{merged_docs};
-ghost use Rattle.star_builder.specs.declared.fault.TreeFault.TheVariants as fault;
 ghost use Rattle.segment_file.specs.Columns.{ids_of};
-ghost use Rattle.segment_file.specs.Ordered.{ordered};
-ghost use Rattle.segment_file.specs.Trees.{TreeFits, documents, written};
+ghost use Rattle.segment_file.specs.Trees.{documents};
 ghost use Rattle.segment_build.specs.Fitting.{AreColumns, AreOfTable};
-ghost use Rattle.segment_build.specs.Growing.{IsBuilt, nodes_grown, stars_grown};
-ghost use Rattle.segment_build.specs.declared.fault.BuildFault.TheVariants.{NoMemory, TooLarge};
+ghost use Rattle.segment_build.specs.Merging.{AreMerged, GrowsTree, GrowsTrees, IsMerged};
 
 use crate::coding::ids_as_given;
-use crate::{BuildFault, Grown, pair_numbers, push_tree};
+use crate::grown::{Grown, push_tree};
+use crate::{BuildFault, pair_numbers};
 use outside::{NoMemory, Seq};
 use star_builder::{TreeFault, build_merged};
 use star_file::StarTree;
@@ -26,54 +25,61 @@ use std::alloc::Global;
 use table_schema::{Table, TreeSetting};
 use values::Columns;
 
-/// The sections of all star-trees of the columns' rows in their order, or the number of the first
-/// tree that takes more bytes than one may. What is made for a tree is let go before the next.
-pub(crate) fn grow_trees(
+/// The documents of each star-tree of the columns' rows, merged.
+pub(crate) fn merge_trees(
     alloc: Global,
     table: &Table,
     columns: &Columns,
-) -> Result<Grown, BuildFault>
+) -> Result<Vec<StarTable>, NoMemory>
     requires rows { AreOfTable table.now columns.now }
-    ensures nodes { IfOk result (λ grown. grown.nodes.items ≡ nodes_grown
-        (ordered table.now.settings.sorted (rows_of columns.now)) table.now.settings.trees) }
-    ensures stars { IfOk result (λ grown. grown.stars.items ≡ stars_grown
-        (ordered table.now.settings.sorted (rows_of columns.now)) table.now.settings.trees) }
-    ensures built { IsBuilt table.now (rows_of columns.now) result }
+    ensures { IfOk result (λ docs. AreMerged table.now columns.now docs.items) }
+{
+    let trees = table.settings.trees.as_slice();
+    let mut all = Vec::with_capacity(alloc, trees.len())?;
+    'trees: for at in 0..trees.len() {
+        let docs = merged_of_tree(alloc, table, columns, &trees[at])?;
+        all.push(docs)?;
+    }
+    Ok(all)
+}
+
+/// The sections of the star-trees of these documents, or the number of the first tree that takes
+/// more bytes than one may. What is made for a tree is let go before the next.
+pub(crate) fn grow_trees(
+    alloc: Global,
+    table: &Table,
+    merged: Vec<StarTable>,
+) -> Result<Grown, BuildFault>
+    requires { (t : ListedColumns) × AreMerged table.now t merged.items }
+    ensures { (t : ListedColumns) → AreMerged table.now t merged.items →
+        GrowsTrees table.now (rows_of t) result }
 {
     let trees = table.settings.trees.as_slice();
     let mut grown = Grown {
         nodes: Vec::with_capacity(alloc, trees.len())?,
         stars: Vec::with_capacity(alloc, trees.len())?,
     };
+    let mut left = merged.into_iter();
     'trees: for at in 0..trees.len() {
-        let tree = match grow_tree(alloc, table, columns, &trees[at]) {
+        let Some(docs) = left.next() else {
+            unreachable!()
+        };
+        let tree = match grow_tree(alloc, &trees[at], docs) {
             Ok(tree) => tree,
             Err(TreeFault::TooLarge) => return Err(BuildFault::TooLarge(at as u8)),
             Err(TreeFault::NoMemory) => return Err(BuildFault::NoMemory),
         };
-        push_tree(alloc, &trees[at].shape, &tree, &mut grown)?;
+        push_tree(alloc, tree, &mut grown)?;
     }
     Ok(grown)
 }
 
-// A star-tree of the columns' rows in their order.
-fn grow_tree(
-    alloc: Global,
-    table: &Table,
-    columns: &Columns,
-    tree: &TreeSetting,
-) -> Result<StarTree, TreeFault>
-    requires rows { AreOfTable table.now columns.now }
-    requires tree { IsValidTree table.now.schema.fields tree.now }
-    ensures written { IfOk result (λ grown. (grown.nodes, grown.docs.docs)
-        ≡ written (ordered table.now.settings.sorted (rows_of columns.now)) tree.now) }
-    ensures kinds { IfOk result (λ grown. grown.docs.kinds ≡ tree.now.shape.kinds) }
-    ensures fits { OnOk result
-        (TreeFits (ordered table.now.settings.sorted (rows_of columns.now)) tree.now) }
-    ensures too_large { IsErrOf result fault.TooLarge →
-        ¬ TreeFits (ordered table.now.settings.sorted (rows_of columns.now)) tree.now }
+// A star-tree of merged documents.
+fn grow_tree(alloc: Global, tree: &TreeSetting, docs: StarTable) -> Result<StarTree, TreeFault>
+    requires { (rows : List (List Value)) × IsMerged rows tree.now docs }
+    ensures { (rows : List (List Value)) → IsMerged rows tree.now docs →
+        GrowsTree rows tree.now result }
 {
-    let docs = merged_of_tree(alloc, table, columns, tree)?;
     match build_merged(alloc, &tree.shape, docs) {
         Ok(grown) => Ok(grown),
         Err(fault) => Err(fault),

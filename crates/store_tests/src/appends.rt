@@ -17,20 +17,20 @@ pub fn appends(
     alloc: Global,
     table: &Table,
     name: &str,
-    columns: &Columns,
+    columns: Columns,
 ) -> Result<String, AllocError>
     requires valid { IsValidTable table.now }
     requires name { IsSegmentName name.now }
-    requires width { length columns.now.columns ≡ length table.now.schema.fields }
-    requires rows { AreRows table.now.schema.fields (rows_of columns.now) }
+    requires width { length columns.columns ≡ length table.now.schema.fields }
+    requires rows { AreRows table.now.schema.fields (rows_of columns) }
 {
+    let Ok(file) = build_columns(alloc, table, name, &columns) else {
+        return String::from_str(alloc, "not built");
+    };
     let mut depot = NotingDepot::new(alloc);
     if write_columns(alloc, &mut depot, table, name, columns).is_err() {
         return String::from_str(alloc, "not written");
     }
-    let Ok(file) = build_columns(alloc, table, name, columns) else {
-        return String::from_str(alloc, "not built");
-    };
     let (mut most, mut all) = (0u64, 0u64);
     for length in depot.lengths() {
         most = most.max(*length);

@@ -43,7 +43,7 @@ pub fn compared(
     let written = is_stored(alloc, table, name, &rows, file, false)?;
     let published = is_stored(alloc, table, name, &rows, file, true)?;
     if of_columns && of_rows && written && published {
-        let given = appends(alloc, table, name, &columns)?;
+        let given = appends(alloc, table, name, columns)?;
         format!(in alloc; "the same file, {given}")
     } else {
         format!(in alloc; "columns {of_columns}, rows {of_rows}, {written}, {published}")
@@ -89,7 +89,7 @@ pub fn generated(alloc: Global, table: &Table, name: &str, rows: u32) -> Result<
         return String::from_str(alloc, "not tried");
     }
     match read_columns(alloc, &table.schema, text.as_bytes()) {
-        Ok(columns) => appends(alloc, table, name, &columns),
+        Ok(columns) => appends(alloc, table, name, columns),
         Err(fault) => format!(in alloc; "{fault:?}"),
     }
 }

@@ -5,4 +5,4 @@ use Rattle.embedded.proofs.building.publish.Goals as goal
 pub returns-in-Err-TooLarge-clause-too_large : goal.returns-in-Err-TooLarge-clause-too_large
 returns-in-Err-TooLarge-clause-too_large g c = λ is.
     let tree = c.in-Err-TooLarge.field-0-0 in
-    large_tested c.args.table.now (rows_of c.args.columns.now) tree (c.in-Err-TooLarge.ensures.too_large tree c.in-Err-TooLarge.field-0-is)
+    large_tested c.args.table.now (rows_of c.args.columns) tree (c.in-Err-TooLarge.ensures.too_large tree c.in-Err-TooLarge.field-0-is)

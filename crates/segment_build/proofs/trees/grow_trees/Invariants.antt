@@ -1,13 +1,13 @@
-use Rattle.std.proofs.Common.{◌≡◌, All, take}
-use Rattle.values.specs.Columns.{rows_of}
-use Rattle.segment_file.specs.Ordered.{ordered}
-use Rattle.segment_file.specs.Trees.{TreeFits}
-use Rattle.segment_build.specs.Growing.{nodes_grown, stars_grown}
+use Rattle.std.proofs.Common.{◌≡◌, drop, length}
+use Rattle.std.specs.Vec.Iter.{into_iter_items, into_iter_len}
+use Rattle.values.specs.Columns.{ListedColumns}
+use Rattle.segment_build.specs.Merging.{AreMerged}
+use Rattle.segment_build.proofs.MergeLemmas.{HaveGrown}
 use Rattle.segment_build.proofs.trees.grow_trees.Given as goal
 
 abbrev pub invariant-trees : goal.invariant-trees
 invariant-trees l = record {
-  nodes : l.grown.nodes.items ≡ nodes_grown (ordered l.table.settings.sorted (rows_of l.columns)) (take l.at l.trees);
-  stars : l.grown.stars.items ≡ stars_grown (ordered l.table.settings.sorted (rows_of l.columns)) (take l.at l.trees);
-  fits : All (TreeFits (ordered l.table.settings.sorted (rows_of l.columns))) (take l.at l.trees);
+  rest : into_iter_items l.left ≡ drop l.at l.fn.merged.items;
+  size : into_iter_len l.left ≡ length (into_iter_items l.left);
+  these : (t : ListedColumns) → AreMerged l.table t l.fn.merged.items → HaveGrown l.table t l.at l.trees l.grown;
 }
