@@ -21,7 +21,7 @@ use Rattle.table_store.specs.TableFile.{table_file, table_name, text_limit}
 use Rattle.command_words.specs.Command.{Create}
 use Rattle.command_model.specs.Create.{Made, beside, json_bytes, json_in, new_table, read_by, schema_in, settings_in, table_of, with_settings}
 use Rattle.command_model.specs.Gives.{Makes, StopsBy, StopsLook}
-use Rattle.command_model.specs.Profile.{NoFile, create_refuses, texts_refuse}
+use Rattle.command_model.specs.Profile.{Front, NoFile, create_refuses, texts_refuse}
 use Rattle.command_model.specs.Ran.{Acted, Caused, Counts, Creates, Ended, HasCause, IsAllowed, IsStepped, Looked, NoFaults, Over, Ran, WhereStands}
 use Rattle.command_model.specs.Step.{Answer, Refuses, Replies, step_of}
 use Rattle.command_model.specs.Touched.{OnlyLooks, WritesThese, Reads, ReadsFront}
@@ -145,7 +145,7 @@ unwritten depot = record { held = names_same (table_name ∷ []) depot.held; par
 abbrev Of : List ℕ → List ℕ → Seen → Seen → Seen → Seen → Result (List ℕ) Stop → Type 0
 Of schema settings inputs inputs_new depot depot_new result = Ran (Some (Create schema settings)) (record { inputs = inputs; depot = depot }) (record { inputs = inputs_new; depot = depot_new }) result
 
-module _ (schema settings : List ℕ) (inputs inputs_new depot : Seen) (reads : Reads ((schema, text_limit) ∷ (settings, text_limit) ∷ []) inputs inputs_new) where
+module _ (schema settings : List ℕ) (inputs inputs_new depot : Seen) (reads : Reads ((schema, Front text_limit) ∷ (settings, Front text_limit) ∷ []) inputs inputs_new) where
   abbrev NewTable : Made → Type 0
   NewTable made = IfSome inputs.held (λ files. new_table schema settings files ≡ made)
 
@@ -304,10 +304,10 @@ looked_at depot looked looks = record {
 pub no_front : (file : List ℕ) (limit : ℕ) (s : Seen) → ReadsFront file limit s s
 no_front file limit s = record { held = refl; parts = refl; writes = refl; later = le_refl _; log = no_reads file limit s.log }
 
-pub no_files : (schema settings : List ℕ) (s : Seen) → Reads ((schema, text_limit) ∷ (settings, text_limit) ∷ []) s s
+pub no_files : (schema settings : List ℕ) (s : Seen) → Reads ((schema, Front text_limit) ∷ (settings, Front text_limit) ∷ []) s s
 no_files schema settings s = (s, no_front schema text_limit s, (s, no_front settings text_limit s, refl))
 
-pub first_alone : (schema settings : List ℕ) (s mid : Seen) → ReadsFront schema text_limit s mid → Reads ((schema, text_limit) ∷ (settings, text_limit) ∷ []) s mid
+pub first_alone : (schema settings : List ℕ) (s mid : Seen) → ReadsFront schema text_limit s mid → Reads ((schema, Front text_limit) ∷ (settings, Front text_limit) ∷ []) s mid
 first_alone schema settings s mid front = (mid, front, (mid, no_front settings text_limit mid, refl))
 
 -- there is a table

@@ -5,3 +5,4 @@ pub mod RowsLemmas
 mod StopsLemmas
 pub mod StoredLemmas
 pub mod WritingLemmas
+pub mod CheckLemmas

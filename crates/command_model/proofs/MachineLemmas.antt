@@ -22,6 +22,7 @@ use Rattle.table_schema.specs.declared.table.Table.{Table}
 use Rattle.segment_file.specs.Image.{CanHold, file_of_rows, front_of, image}
 use Rattle.segment_file.specs.Names.{IsSegmentName, file_of}
 use Rattle.segment_file.specs.Ordered.{ordered}
+use Rattle.segment_file.specs.declared.part.Part.{Part}
 use Rattle.segment_file.proofs.RuleLaws.{fronts_one}
 use Rattle.sql_reply.specs.Asked.{asked}
 use Rattle.sql_reply.specs.SqlReply.{SqlReply, sql_reply}
@@ -35,31 +36,34 @@ use Rattle.segment_reads.proofs.NameLemmas.{names_live}
 use Rattle.segment_head.specs.Stored.{HasImage, live, names_of, stored_rows}
 use Rattle.query_executor.specs.Stated.{IsStated, stated, stated_by}
 use Rattle.table_store.specs.Accepted.{IsAccepted, IsNoTableFile}
+use Rattle.table_store.specs.Images.{IsNoStoredImage, IsStoredImage}
 use Rattle.table_store.specs.Segments.{AreFirstNames, HasRoom, HasSegment, IsFull, LacksSegment, has_segment, most_segments}
 use Rattle.table_store.specs.Stands.{IsSegment, Stands, segment_file, segment_of}
 use Rattle.table_store.specs.State as state
 use Rattle.table_store.specs.State.{Segment, State, NoTable, HasTable, Segments}
 use Rattle.table_store.specs.TableFile.{table_file, table_name}
-use Rattle.table_store.proofs.AcceptedLemmas.{one_table}
+use Rattle.table_store.proofs.AcceptedLemmas.{accepted_valid, one_table}
 use Rattle.table_store.proofs.KeyLemmas.{names_stand, segment_kept_so, segment_there}
 use Rattle.table_store.proofs.CountLemmas.{names_count}
 use Rattle.table_store.proofs.DropLemmas.{drop_stands}
+use Rattle.table_store.proofs.ImageLemmas.{none_wrong, one_image}
 use Rattle.table_store.proofs.StandsLemmas.{create_stands, none_there, one_there, segment_stands, table_stands, table_there}
 use Rattle.command_model.specs.Build.{BuildRefuses, HasPlace, IsBuilt, new_rows, segment_rows, table_of as table_in, with_schema, with_settings as settled}
-use Rattle.command_words.specs.Command.{Build, Command, Create, Drop, Listing, Open, Scan, Ask}
+use Rattle.command_words.specs.Command.{Build, Command, Create, Drop, Listing, Open, Scan, Ask, Verify}
 use Rattle.command_model.specs.Drop.{DropRefuses, IsDropped, IsMissing}
 use Rattle.command_model.specs.Create.{Made, beside, json_bytes, json_in, new_table, read_by, schema_in, settings_in, table_of, with_settings}
 use Rattle.command_model.proofs.StoredLemmas.{table_segments}
 use Rattle.command_model.specs.Queried.{HasNoReply, HasReply, IsFaultOf, IsQueried, IsWrongImage, QueryRefuses, all_rows, rows_in}
 use Rattle.command_words.specs.declared.about.About.{About}
 use Rattle.command_words.specs.declared.about.About.TheVariants.{Plans, Rows, RowsAndPlans}
-use Rattle.command_model.specs.Ran.{Builds, Drops, IsStepped, Lists, Over, Queries, TableIsThere, WhereStands, files_after}
+use Rattle.command_model.specs.Ran.{Builds, Drops, IsStepped, Lists, Over, Queries, TableIsThere, Verifies, WhereStands, files_after}
+use Rattle.command_model.specs.Verify.{IsUnlikeRows, IsVerified, VerifyRefuses, verified_text}
 use Rattle.command_model.specs.Stored.{HasRows, HasTableFile, IsListed, IsWrongSegment, SegmentsRefuse, count_in, list_text}
 use Rattle.command_words.specs.declared.note.Counted.TheVariants as counted
 use Rattle.command_words.specs.declared.note.Note.{Note}
 use Rattle.command_words.specs.declared.note.Note.TheVariants as note
 use Rattle.command_words.specs.declared.note.Note.TheVariants.{BadSchema, BadSettings}
-use Rattle.command_model.specs.Step.{After, Answer, Refuses, Replies, built, create_answer, created, dropped, has_table, list_answer, query_answer, rows_answer, sql_answered, step_of, with_rows, with_table, without_segment}
+use Rattle.command_model.specs.Step.{After, Answer, Refuses, Replies, built, create_answer, created, dropped, has_table, list_answer, query_answer, rows_answer, sql_answered, step_of, verified, verify_answer, with_rows, with_table, without_segment}
 
 -- ---- the texts that were made are accepted
 
@@ -453,6 +457,64 @@ query_step stored about sql (Refuses line) NoTable stands h = none_asked stored 
 query_step stored about sql (Replies text) (HasTable texts segments) stands q = query_right stored texts segments stands about sql text q
 query_step stored about sql (Refuses line) (HasTable texts segments) stands h = some_asked stored texts segments stands about sql line h
 
+-- ---- `verify`
+
+counted_rows : (o : Option Segment) → count_in o ≡ length (rows_in o)
+counted_rows None = refl
+counted_rows (Some segment) = refl
+
+module _ (stored : Files) (texts : state.Texts) (segments : Segments) (stands : Stands stored (HasTable texts segments)) (name : List ℕ) (table : Table) (table_is : HasTableFile stored table) (has : HasSegment (Some stored) name) where
+  taken : is_some (map.get segments name) ≡ true
+  taken = segment_taken stored texts segments stands name has
+
+  accepted_so : IsAccepted texts table
+  accepted_so = table_stands stored texts segments table stands table_is
+
+  there_so : has_segment stored name ≡ true
+  there_so = key_named stored texts segments stands name (map.get segments name) refl taken
+
+  named_so : (o : Option Segment) → map.get segments name ≡ o → is_some o ≡ true → IsSegmentName name
+  named_so None got some = absurd cc
+  named_so (Some segment) got some = stands.valid.named name segment got
+
+  -- the rows of which its file is the image are those of the state
+  pub image_counts : (rows : List (List Value)) → IsStoredImage table stored name rows → length rows ≡ count_in (map.get segments name)
+  image_counts rows is =
+      let (first, image_is, own) = came stored texts segments stands table accepted_so name there_so in
+      let same = one_image table stored name first (accepted_valid texts table accepted_so) (named_so (map.get segments name) refl taken) image_is.can image_is.stored rows is in
+      ap length (same ∙ own) ∙ sym (counted_rows (map.get segments name))
+
+  -- and no part of it is wrong
+  pub image_whole : {A : Type 0} (p : Part) → IsNoStoredImage table stored name p → A
+  image_whole p wrong =
+      let (first, image_is, own) = came stored texts segments stands table accepted_so name there_so in
+      absurd (none_wrong table stored name first (accepted_valid texts table accepted_so) (named_so (map.get segments name) refl taken) image_is.can image_is.stored p wrong)
+
+module _ (stored : Files) (texts : state.Texts) (segments : Segments) (stands : Stands stored (HasTable texts segments)) (name : List ℕ) where
+  by_there : (there : Bool) (answer : Answer) → is_some (map.get segments name) ≡ there → answer ≡ verified there name (count_in (map.get segments name)) → answer ≡ verify_answer (HasTable texts segments) name
+  by_there there answer is same = same ∙ ap (λ b. verified b name (count_in (map.get segments name))) (sym is)
+
+  verified_right : (text : List ℕ) → IsVerified stored name text → Replies text ≡ verify_answer (HasTable texts segments) name
+  verified_right text v =
+      by_there true (Replies text) (segment_taken stored texts segments stands name v.there)
+      (ap Replies (v.text_is ∙ ap (verified_text name) (image_counts stored texts segments stands name v.table v.table_is v.there v.rows v.image)))
+
+  some_verified : (line : Note) → VerifyRefuses name stored line → Refuses line ≡ verify_answer (HasTable texts segments) name
+  some_verified line (inl h) = some_refused stored texts segments stands line (table_segments stored line h)
+  some_verified line (inr (inl m)) = by_there false (Refuses line) (ap is_some (segment_lacks stored texts segments stands name m.none)) (ap Refuses m.line_is)
+  some_verified line (inr (inr w)) = image_whole stored texts segments stands name w.table w.table_is w.there w.wrong w.none
+
+none_verified : (stored : Files) → Stands stored NoTable → (name : List ℕ) (line : Note) → VerifyRefuses name stored line → Refuses line ≡ verify_answer NoTable name
+none_verified stored stands name line (inl h) = none_refused stored stands line (table_segments stored line h)
+none_verified stored stands name line (inr (inl m)) = let (bytes, got, is) = m.table_is in none_there stored stands (bytes, got)
+none_verified stored stands name line (inr (inr w)) = let (bytes, got, is) = w.table_is in none_there stored stands (bytes, got)
+
+verify_step : (stored : Files) (name : List ℕ) (answer : Answer) (before : State) → Stands stored before → Verifies name stored answer → answer ≡ verify_answer before name
+verify_step stored name (Replies text) NoTable stands v = let (bytes, got, is) = v.table_is in none_there stored stands (bytes, got)
+verify_step stored name (Refuses line) NoTable stands h = none_verified stored stands name line h
+verify_step stored name (Replies text) (HasTable texts segments) stands v = verified_right stored texts segments stands name text v
+verify_step stored name (Refuses line) (HasTable texts segments) stands h = some_verified stored texts segments stands name line h
+
 -- what is done over any store is the step where it stands for a state
 over_step : (command : Option Command) (inputs stored : Files) (answer : Answer) (new : Option Files) (before : State) → Stands stored before → Over command inputs (Some stored) answer new → IsStepped (step_of before command inputs) answer new
 over_step None inputs stored answer new before stands (answers, same) = record { answers = answers; stands = stays stored before new stands same }
@@ -461,6 +523,7 @@ over_step (Some (Create schema settings)) inputs stored answer new before stands
     by_table (new_table schema settings inputs) stored answer new before over.there (accepted schema settings inputs) stands over.known over.answers over.leaves
 over_step (Some (Build name csv)) inputs stored answer new before stands builds = build_step stored name csv inputs answer new before stands builds
 over_step (Some (Drop name)) inputs stored answer new before stands drops = drop_step stored name answer new before stands drops
+over_step (Some (Verify name)) inputs stored answer new before stands (verifies, same) = record { answers = verify_step stored name answer before stands verifies; stands = stays stored before new stands same }
 over_step (Some Listing) inputs stored answer new before stands (lists, same) = record { answers = list_step stored answer before stands lists; stands = stays stored before new stands same }
 over_step (Some (Ask about sql)) inputs stored answer new before stands (queries, same) = record { answers = query_step stored about sql answer before stands queries; stands = stays stored before new stands same }
 over_step (Some (Open file)) inputs stored answer new before stands (answers, same) = record { answers = answers; stands = stays stored before new stands same }

@@ -5,7 +5,7 @@ use Rattle.std.specs.Str.{bytes_eq}
 use Rattle.outside.specs.Files.{Files}
 use Rattle.outside.specs.Seen.{Seen}
 use Rattle.table_store.specs.State.{State}
-use Rattle.command_words.specs.Command.{Ask, Build, Command, Create, Drop, Listing, Open, Scan, asks_write, by_verb, command_of, may_write, writes}
+use Rattle.command_words.specs.Command.{Ask, Build, Command, Create, Drop, Listing, Open, Scan, Verify, asks_write, by_verb, command_of, may_write, writes}
 use Rattle.command_model.specs.Profile.{profile}
 use Rattle.command_model.specs.Step.{step_of}
 use Rattle.command_model.specs.Touched.{Keeps}
@@ -18,6 +18,7 @@ step_leaves state (Some (Scan file sql)) inputs quiet = refl
 step_leaves state (Some (Create schema settings)) inputs quiet = cc
 step_leaves state (Some (Build name csv)) inputs quiet = cc
 step_leaves state (Some (Drop name)) inputs quiet = cc
+step_leaves state (Some (Verify name)) inputs quiet = refl
 step_leaves state (Some Listing) inputs quiet = refl
 step_leaves state (Some (Ask about sql)) inputs quiet = refl
 step_leaves state (Some (Open file)) inputs quiet = refl
@@ -43,6 +44,7 @@ keeps_depot (Some (Scan file sql)) old new quiet kept = record { held = ap (λ s
 keeps_depot (Some (Create schema settings)) old new quiet kept = cc
 keeps_depot (Some (Build name csv)) old new quiet kept = cc
 keeps_depot (Some (Drop name)) old new quiet kept = cc
+keeps_depot (Some (Verify name)) old new quiet kept = record { held = kept.held; parts = kept.parts; writes = kept.writes }
 keeps_depot (Some Listing) old new quiet kept = record { held = kept.held; parts = kept.parts; writes = kept.writes }
 keeps_depot (Some (Ask about sql)) old new quiet kept = record { held = kept.held; parts = kept.parts; writes = kept.writes }
 keeps_depot (Some (Open file)) old new quiet kept = record { held = ap (λ s. s.held) kept; parts = ap (λ s. s.parts) kept; writes = ap (λ s. s.write_faults) kept }

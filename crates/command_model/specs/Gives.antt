@@ -1,14 +1,16 @@
 -- What the functions below a command's own answer.
-use Rattle.std.specs.Prelude.{◌≡◌, ◌⊎◌, ◌++◌, ◌<◌, true, false, ℕ, List, [], codes, get_or, length, Option, Result, Ok, Err, IsErrAnd, IfSome, IfErr, IfOk}
+use Rattle.std.specs.Prelude.{◌≡◌, ◌⊎◌, ◌++◌, ◌<◌, true, false, ℕ, List, [], codes, get_or, length, Option, Some, Result, Ok, Err, IsErrAnd, IfSome, IfErr, IfOk, OnOk}
 use Rattle.std.specs.FinMap as finite
 use Rattle.std.specs.Str.{is_utf8}
 use Rattle.outside.specs.Counts.{Rose}
 use Rattle.outside.specs.Files.{Files, Has, Lacks, with_file, without_file}
 use Rattle.outside.specs.Whole.{IsTooLong}
+use Rattle.values.specs.Columns.{ListedColumns, rows_of}
 use Rattle.values.specs.declared.value.Value.{Value}
 use Rattle.csv_ingest.specs.Blocks.{RowsOrFault}
 use Rattle.csv_row.specs.declared.fault.CsvFault.{CsvFault}
 use Rattle.table_schema.specs.declared.table.Table.{Table}
+use Rattle.table_store.specs.Images.{IsNoStoredImage, IsStoredImage}
 use Rattle.table_store.specs.Segments.{HasSegment, LacksSegment}
 use Rattle.table_store.specs.State as state
 use Rattle.table_store.specs.TableFile.{table_file, table_name}
@@ -19,6 +21,7 @@ use Rattle.command_model.specs.Profile.{Opens, StoreFiles, TableFile, place_refu
 use Rattle.command_model.specs.Queried.{IsQueried, QueryRefuses}
 use Rattle.command_model.specs.Stored.{part_text}
 use Rattle.command_model.specs.Touched.{LogsOpened}
+use Rattle.segment_build.specs.FileReads.{LogsFile}
 use Rattle.segment_build.specs.Growing.{TreesFit, trees_fit}
 use Rattle.segment_file.specs.Image.{image}
 use Rattle.segment_file.specs.Names.{file_of}
@@ -143,6 +146,18 @@ abbrev pub IsSegmentStop : List ℕ → List Field → Part → Stop → Type 0
 IsSegmentStop name fields part s = (s ≡ stop.Refused (note.NotASegment name
     (part_text fields part))) ⊎ (s ≡ stop.Fault fault.Memory)
 
+-- there is no segment of a name, or memory ran out
+abbrev pub IsMissingStop : List ℕ → Stop → Type 0
+IsMissingStop name s = (s ≡ stop.Refused (note.NoSegment name)) ⊎ (s ≡ stop.Fault fault.Memory)
+
+-- what the fault of a look at a segment of this name is
+abbrev pub IsCheckStop : List ℕ → List Field → StoreFault → Stop → Type 0
+IsCheckStop name fields store.NoSegment s = IsMissingStop name s
+IsCheckStop name fields (store.NotASegment part) s = IsSegmentStop name fields part s
+IsCheckStop name fields store.ReadFault s = s ≡ stop.Fault fault.Read
+IsCheckStop name fields store.NoMemory s = s ≡ stop.Fault fault.Memory
+IsCheckStop name fields other s = ⊥
+
 -- what the fault of a head of a segment of this name is
 abbrev pub IsHeadStop : List ℕ → List Field → HeadFault → Stop → Type 0
 IsHeadStop name fields (head.NotASegment part) s = IsSegmentStop name fields part s
@@ -233,11 +248,37 @@ Publishes table name rows old new (Err (stop.Fault fault.Write)) = (new.held ≡
     × Rose old.write_faults new.write_faults
 Publishes table name rows old new (Err (stop.Fault fault.Memory)) = new.held ≡ old.held
 
--- ---- a segment is dropped
+-- ---- a segment is looked at
 
--- there is no segment of a name, or memory ran out
-abbrev pub IsMissingStop : List ℕ → Stop → Type 0
-IsMissingStop name s = (s ≡ stop.Refused (note.NoSegment name)) ⊎ (s ≡ stop.Fault fault.Memory)
+-- why the segment of this name of a table is refused: there is none, or its file is no image for
+-- this part of it
+abbrev pub RefusesSegment : Table → List ℕ → Option Files → Note → Type 0
+RefusesSegment table name held (note.NoSegment none) = (none ≡ name) × LacksSegment held name
+RefusesSegment table name held (note.NotASegment of part) = (of ≡ name) × HasSegment held name
+    × IfSome held (λ files. (wrong : Part) × IsNoStoredImage table files name wrong
+    × (part ≡ part_text table.schema.fields wrong))
+RefusesSegment table name held other = ⊥
+
+-- a look at a segment ends: it is refused so, or a look failed, or memory ran out
+abbrev pub StopsSegment : Table → List ℕ → Option Files → Stop → Type 0
+StopsSegment table name held (stop.Refused line) = RefusesSegment table name held line
+StopsSegment table name held (stop.Fault fault.Read) = Unit {0}
+StopsSegment table name held (stop.Fault fault.Write) = ⊥
+StopsSegment table name held (stop.Fault fault.Memory) = Unit {0}
+
+-- a call read the file of a segment alone and changed nothing; where files are told, that file is
+-- the image of the rows that it found, or is refused so
+pub record FindsSegment (table : Table) (name : List ℕ) (old new : Seen)
+    (result : Result ListedColumns Stop) : Type 0 where
+  pub reads : OnlyReads (IsErrAnd result (λ s. s ≡ stop.Fault fault.Read)) old new
+  pub log : LogsFile (file_of name) old.log new.log
+  pub unread : IfSome old.held (λ files. LacksSegment (Some files) name → new.log ≡ old.log)
+  pub there : OnOk result (HasSegment old.held name)
+  pub found : IfOk result (λ t. IfSome old.held (λ files.
+      IsStoredImage table files name (rows_of t)))
+  pub stops : IfErr result (StopsSegment table name old.held)
+
+-- ---- a segment is dropped
 
 -- the file of the segment of this name was taken away, or there is none, or a device failed, or
 -- memory ran out

@@ -12,5 +12,6 @@ pub mod Ran
 pub mod Step
 pub mod Stored
 pub mod Touched
+pub mod Verify
 pub mod World
 pub mod ScanNotes

@@ -5,7 +5,7 @@ use Rattle.csv_ingest.specs.Blocks as csv
 use Rattle.segment_file.specs.Names.{file_of}
 use Rattle.segment_file.specs.Trees as trees
 use Rattle.table_store.specs.TableFile.{table_name, text_limit}
-use Rattle.command_words.specs.Command.{Build, Command, Create, Drop, Listing, Open, Scan, Ask}
+use Rattle.command_words.specs.Command.{Build, Command, Create, Drop, Listing, Open, Scan, Ask, Verify}
 use Rattle.command_words.specs.declared.about.About.{About}
 use Rattle.command_words.specs.declared.about.About.TheVariants.{Plans, Rows, RowsAndPlans}
 use Rattle.command_words.specs.declared.note.Counted.{Counted}
@@ -25,10 +25,18 @@ tree_limit = trees.tree_limit
 abbrev pub script_limit : ℕ
 script_limit = 16777216
 
--- which stored files are opened: none, that of the table, or that and those of segments
+-- which bytes of an input file are read: those of its front, each once, and so many at most; or any
+-- of them
+pub data Portion : Type 0 where
+  Front : (limit : ℕ) → Portion
+  AnyPlace : Portion
+
+-- which stored files are opened: none, that of the table, that and the one of a segment of this
+-- name, or that and those of segments
 pub data Opens : Type 0 where
   NoFile : Opens
   TableFile : Opens
+  SegmentFile : (name : List ℕ) → Opens
   StoreFiles : Opens
 
 -- what a command has to do with the store: nothing, looks alone, or writes under these names
@@ -39,8 +47,8 @@ pub data Store : Type 0 where
 
 -- what a command has to do with the devices, and how it may end
 pub record Profile : Type 0 where
-  -- the input files that it reads, in their order, each with the most bytes of it
-  pub files : List (List ℕ × ℕ)
+  -- the input files that it reads, in their order, each with the bytes of it
+  pub files : List (List ℕ × Portion)
   pub store : Store
   -- whether it is ever done, and which notes it may end with
   pub replies : Bool
@@ -123,10 +131,10 @@ place_refuses other = false
 abbrev pub build_refuses : Note → Bool
 build_refuses line = place_refuses line || rows_refuse line
 
--- the refusals of `drop`
-abbrev pub drop_refuses : Note → Bool
-drop_refuses (note.NoSegment name) = true
-drop_refuses other = store_refuses other
+-- the refusals of a command that asks for one segment
+abbrev pub segment_refuses : Note → Bool
+segment_refuses (note.NoSegment name) = true
+segment_refuses other = store_refuses other
 
 -- the limit that the text of a query has
 abbrev pub sql_counts : Counted → Bool
@@ -166,21 +174,21 @@ script_refuses other = false
 abbrev pub profile : Option Command → Profile
 profile None = record { files = []; store = Apart; replies = false; refuses = words_refuse }
 profile (Some (Scan file sql)) = record {
-  files = (file, csv_limit) ∷ [];
+  files = (file, Front csv_limit) ∷ [];
   store = Apart;
   replies = true;
   refuses = scan_refuses;
 }
 profile (Some (Create schema settings)) =
     record {
-      files = (schema, text_limit) ∷ (settings, text_limit) ∷ [];
+      files = (schema, Front text_limit) ∷ (settings, Front text_limit) ∷ [];
       store = Writes NoFile (table_name ∷ []);
       replies = true;
       refuses = create_refuses;
     }
 profile (Some (Build name csv)) =
     record {
-      files = (csv, csv_limit) ∷ [];
+      files = (csv, Front csv_limit) ∷ [];
       store = Writes TableFile (file_of name ∷ []);
       replies = true;
       refuses = build_refuses;
@@ -190,7 +198,14 @@ profile (Some (Drop name)) =
       files = [];
       store = Writes TableFile (file_of name ∷ []);
       replies = true;
-      refuses = drop_refuses;
+      refuses = segment_refuses;
+    }
+profile (Some (Verify name)) =
+    record {
+      files = [];
+      store = Looks (SegmentFile name);
+      replies = true;
+      refuses = segment_refuses;
     }
 profile (Some Listing) = record {
   files = [];
@@ -205,7 +220,7 @@ profile (Some (Ask about sql)) = record {
   refuses = query_refuses about;
 }
 profile (Some (Open file)) = record {
-  files = (file, script_limit) ∷ [];
+  files = (file, Front script_limit) ∷ [];
   store = Apart;
   replies = true;
   refuses = script_refuses;
@@ -217,7 +232,7 @@ opens_store Apart = false
 opens_store store = true
 
 -- whether an input file is read
-abbrev pub reads_files : List (List ℕ × ℕ) → Bool
+abbrev pub reads_files : List (List ℕ × Portion) → Bool
 reads_files [] = false
 reads_files files = true
 

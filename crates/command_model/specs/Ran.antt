@@ -8,7 +8,7 @@ use Rattle.table_store.specs.Stands.{Stands}
 use Rattle.table_store.specs.Segments.{HasSegment, IsFull, LacksSegment, most_segments}
 use Rattle.table_store.specs.TableFile.{table_file, table_name, text_limit}
 use Rattle.command_model.specs.Build.{BuildRefuses, IsBuilt}
-use Rattle.command_words.specs.Command.{Build, Command, Create, Drop, Listing, Open, Scan, Ask}
+use Rattle.command_words.specs.Command.{Build, Command, Create, Drop, Listing, Open, Scan, Ask, Verify}
 use Rattle.command_model.specs.Consulted.{AtMostRead, Consulted}
 use Rattle.command_model.specs.Create.{Made, new_table}
 use Rattle.command_model.specs.Drop.{DropRefuses, IsDropped}
@@ -17,6 +17,7 @@ use Rattle.command_model.specs.Queried.{IsQueried, IsWrongImage, QueryRefuses}
 use Rattle.command_model.specs.Step.{After, Answer, Refuses, Replies, create_answer, scan_answer, script_answer, step_of}
 use Rattle.command_model.specs.Stored.{IsListed, IsWrongSegment, IsWrongTable, SegmentsRefuse}
 use Rattle.command_model.specs.Touched.{ReadsFront, Touched}
+use Rattle.command_model.specs.Verify.{IsUnlikeRows, IsVerified, VerifyRefuses}
 use Rattle.command_model.specs.World.{Devices}
 use Rattle.command_words.specs.declared.about.About.{About}
 use Rattle.command_words.specs.declared.fault.Fault.{Fault}
@@ -80,6 +81,11 @@ abbrev pub Drops : List ℕ → Files → Answer → Option Files → Type 0
 Drops name files (Replies text) new = IsDropped files name text new
 Drops name files (Refuses line) new = DropRefuses name files line × (new ≡ Some files)
 
+-- what `verify` answers of any published files
+abbrev pub Verifies : List ℕ → Files → Answer → Type 0
+Verifies name files (Replies text) = IsVerified files name text
+Verifies name files (Refuses line) = VerifyRefuses name files line
+
 -- what a command does over any store
 abbrev pub Over : Option Command → Files → Option Files → Answer → Option Files → Type 0
 Over None inputs old answer new = (answer ≡ Refuses note.BadWords) × (new ≡ old)
@@ -90,6 +96,8 @@ Over (Some (Create schema settings)) inputs old answer new = Creates
 Over (Some (Build name csv)) inputs old answer new = IfSome old
     (λ files. Builds name csv inputs files answer new)
 Over (Some (Drop name)) inputs old answer new = IfSome old (λ files. Drops name files answer new)
+Over (Some (Verify name)) inputs old answer new = IfSome old (λ files. Verifies name files answer)
+    × (new ≡ old)
 Over (Some Listing) inputs old answer new = IfSome old (λ files. Lists files answer) × (new ≡ old)
 Over (Some (Ask about sql)) inputs old answer new = IfSome old
     (λ files. Queries about sql files answer) × (new ≡ old)
@@ -109,25 +117,29 @@ Finds (Some (Create schema settings)) inputs stored line = new_table schema sett
 Finds (Some (Build name csv)) inputs stored line = IfSome stored
     (λ files. BuildRefuses name csv inputs files line)
 Finds (Some (Drop name)) inputs stored line = ⊥
+Finds (Some (Verify name)) inputs stored line = ⊥
 Finds (Some Listing) inputs stored line = ⊥
 Finds (Some (Ask about sql)) inputs stored line = IfSome stored
     (λ files. QueryRefuses about sql files line)
 Finds (Some (Open file)) inputs stored line = script_answer file (map.get inputs file)
     ≡ Refuses line
 
--- a published file is not what it stands for; only `list`, `query`, `explain` and `stats` look at
--- those of segments
+-- a published file is not what it stands for; only `verify`, `list`, `query`, `explain` and `stats`
+-- look at those of segments
 abbrev pub IsWrong : Option Command → Files → List ℕ → List ℕ → Type 0
+IsWrong (Some (Verify asked)) files name part = IsWrongTable files name part
+    ⊎ IsUnlikeRows files asked (note.NotASegment name part)
 IsWrong (Some Listing) files name part = IsWrongTable files name part
     ⊎ IsWrongSegment files name part
 IsWrong (Some (Ask about sql)) files name part = IsWrongTable files name part
     ⊎ IsWrongImage about sql files name part
 IsWrong command files name part = IsWrongTable files name part
 
--- a name is the one of the segment that a command makes or drops
+-- a name is the one of the segment that a command makes, drops or looks at
 abbrev pub IsNameIn : Option Command → List ℕ → Type 0
 IsNameIn (Some (Build name csv)) other = other ≡ name
 IsNameIn (Some (Drop name)) other = other ≡ name
+IsNameIn (Some (Verify name)) other = other ≡ name
 IsNameIn command other = ⊥
 
 -- what is told of the devices where a command is refused so: of the store, or of the bytes of files

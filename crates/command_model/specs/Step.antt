@@ -9,12 +9,13 @@ use Rattle.table_store.specs.Stands.{segment_of}
 use Rattle.table_store.specs.State.{Segments, State, Texts, NoTable, HasTable}
 use Rattle.table_store.specs.TableFile.{table_name}
 use Rattle.command_model.specs.Build.{built_text, new_rows, table_of}
-use Rattle.command_words.specs.Command.{Build, Command, Create, Drop, Listing, Open, Scan, Ask, command_of}
+use Rattle.command_words.specs.Command.{Build, Command, Create, Drop, Listing, Open, Scan, Ask, Verify, command_of}
 use Rattle.command_model.specs.Create.{Made, new_table}
 use Rattle.command_model.specs.Drop.{dropped_text}
 use Rattle.sql_reply.specs.SqlReply.{SqlReply}
 use Rattle.text_scan.specs.TextReply.{TextReply, text_reply}
-use Rattle.command_model.specs.Stored.{listed}
+use Rattle.command_model.specs.Stored.{count_in, listed}
+use Rattle.command_model.specs.Verify.{verified_text}
 use Rattle.command_model.specs.Queried.{reply_about}
 use Rattle.command_words.specs.Notes.{sql_note, status_of, note_text}
 use Rattle.command_model.specs.ScanNotes.{scan_note}
@@ -92,6 +93,18 @@ created NoTable (Ok (texts, table)) = HasTable texts map.empty
 abbrev pub list_answer : State → Answer
 list_answer NoTable = Refuses note.NoTable
 list_answer (HasTable texts segments) = Replies (listed segments)
+
+-- the answer to `verify` where there is a table, by whether there is a segment of the name, and how
+-- many rows it has
+abbrev pub verified : Bool → List ℕ → ℕ → Answer
+verified true name rows = Replies (verified_text name rows)
+verified false name rows = Refuses (note.NoSegment name)
+
+-- the answer to `verify`: each segment of a state is one
+abbrev pub verify_answer : State → List ℕ → Answer
+verify_answer NoTable name = Refuses note.NoTable
+verify_answer (HasTable texts segments) name = verified (is_some (map.get segments name)) name
+    (count_in (map.get segments name))
 
 -- what a query over rows answers: its reply, or a refusal
 abbrev pub sql_answered : SqlReply → Answer
@@ -174,6 +187,10 @@ step_of state (Some (Create schema settings)) inputs =
     }
 step_of state (Some (Build name csv)) inputs = built state name csv inputs
 step_of state (Some (Drop name)) inputs = dropped state name
+step_of state (Some (Verify name)) inputs = record {
+  answer = verify_answer state name;
+  state = state;
+}
 step_of state (Some Listing) inputs = record { answer = list_answer state; state = state }
 step_of state (Some (Ask about sql)) inputs = record {
   answer = query_answer about state sql;

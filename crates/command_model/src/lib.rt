@@ -14,4 +14,4 @@ pub use laws::may_write_law;
 pub use new_table::{NewTable, read_table};
 pub use part_name::segment_stop;
 pub use rows::{csv_columns, read_rows};
-pub use store::{stored_names, stored_table, table_with_place};
+pub use store::{no_segment, stored_names, stored_rows, stored_table, table_with_place};

@@ -8,6 +8,7 @@ ghost use Rattle.table_schema.specs.Valid.{IsValidSchema};
 ghost use Rattle.table_store.specs.TableFile.{FitsTable, text_limit};
 ghost use Rattle.command_model.specs.Create.{beside, json_in, new_table, schema_in, settings_in};
 ghost use Rattle.command_model.specs.Gives.{StopsBy};
+ghost use Rattle.command_model.specs.Profile.{Front};
 ghost use Rattle.command_model.specs.Touched.{Reads, ReadsFront};
 ghost use Rattle.outside.specs.Seen.{seen};
 
@@ -146,7 +147,7 @@ pub fn read_table<I: Shelf>(
     ensures schema_alone { (wrong : KeyKind) (path : List ℕ) →
         IsErrOf result (Stop.Refused (Note.BadSchema wrong path)) →
         ReadsFront schema.now text_limit (seen I.Shelf inputs.old) (seen I.Shelf inputs.new) }
-    ensures reads { Reads ((schema.now, text_limit) ∷ (settings.now, text_limit) ∷ [])
+    ensures reads { Reads ((schema.now, Front text_limit) ∷ (settings.now, Front text_limit) ∷ [])
         (seen I.Shelf inputs.old) (seen I.Shelf inputs.new) }
 {
     let (schema_text, schema) = read_schema_file(alloc, schema, inputs)?;

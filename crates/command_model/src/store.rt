@@ -2,20 +2,23 @@
 ghost use Rattle.std.specs.Prelude.{◌≡◌, ◌≤◌, codes, length, IfOk};
 ghost use Rattle.std.specs.List.{All};
 ghost use Rattle.outside.specs.Seen.{seen};
-ghost use Rattle.segment_file.specs.Names.{IsSegmentName};
+ghost use Rattle.segment_file.specs.Names.{IsSegmentName, IsSegmentOf};
 ghost use Rattle.table_schema.specs.ValidTable.{IsValidTable};
+ghost use Rattle.table_store.specs.Calls.{IsCheckFault};
 ghost use Rattle.table_store.specs.Segments.{AreFirstNames};
 ghost use Rattle.table_store.specs.TableFile.{table_name};
-ghost use Rattle.command_model.specs.Gives.{FindsPlace, IsLookFault, IsStopOf, IsTakenStop, LooksFor};
+ghost use Rattle.command_model.specs.Gives.{FindsPlace, FindsSegment, IsCheckStop, IsLookFault, IsMissingStop, IsStopOf, IsTakenStop, LooksFor};
 ghost use Rattle.command_model.specs.Places.{IsPlaceFault, IsPlaceStop};
 ghost use Rattle.command_model.specs.Profile.{TableFile};
 ghost use Rattle.command_model.specs.Stored.{HasTableFile, TableRefuses};
 
+use crate::segment_stop;
 use command_words::{Counted, Fault, Note, Stop};
 use outside::{Depot, Name, Seq};
 use std::alloc::{AllocError, Global};
 use table_schema::Table;
-use table_store::{MOST_SEGMENTS, StoreFault, find_room, open_table, segment_names};
+use table_store::{MOST_SEGMENTS, StoreFault, check_segment, find_room, open_table, segment_names};
+use values::Columns;
 
 /// The table of the store.
 pub fn stored_table<D: Depot>(alloc: Global, depot: &mut D) -> Result<Table, Stop>
@@ -51,6 +54,52 @@ pub fn table_with_place<D: Depot>(alloc: Global, name: &str, depot: &mut D) -> R
     match find_room(alloc, depot, name) {
         Ok(()) => Ok(table),
         Err(fault) => Err(no_place(alloc, name, fault)),
+    }
+}
+
+/// The rows of the segment of this name, column by column, where its file is their image.
+pub fn stored_rows<D: Depot>(
+    alloc: Global,
+    table: &Table,
+    name: &str,
+    depot: &mut D,
+) -> Result<Columns, Stop>
+    requires { IsSegmentOf table.now name.now }
+    ensures { FindsSegment table.now name.now
+        (seen D.Shelf depot.old) (seen D.Shelf depot.new) result }
+{
+    match check_segment(alloc, depot, table, name) {
+        Ok(columns) => Ok(columns),
+        Err(fault) => Err(no_image(alloc, table, name, fault)),
+    }
+}
+
+// What a fault of a look at a segment is for a command.
+fn no_image(alloc: Global, table: &Table, name: &str, fault: StoreFault) -> Stop
+    requires { IsCheckFault fault }
+    ensures { IsCheckStop name.now table.now.schema.fields fault result }
+{
+    match fault {
+        StoreFault::NoSegment => no_segment(alloc, name),
+        StoreFault::NotASegment(part) => segment_stop(alloc, table, name, part),
+        StoreFault::ReadFault => Stop::Fault(Fault::Read),
+        StoreFault::NoMemory => Stop::Fault(Fault::Memory),
+        StoreFault::TableExists
+        | StoreFault::NoTable
+        | StoreFault::NameTaken
+        | StoreFault::TooManySegments
+        | StoreFault::TooLarge
+        | StoreFault::WriteFault => unreachable!(),
+    }
+}
+
+/// The refusal of a name that no segment has.
+pub fn no_segment(alloc: Global, name: &str) -> Stop
+    ensures { IsMissingStop name.now result }
+{
+    match name.as_bytes().to_vec(alloc) {
+        Ok(name) => Stop::Refused(Note::NoSegment(Seq::from_vec(name))),
+        Err(_) => Stop::Fault(Fault::Memory),
     }
 }
 

@@ -11,6 +11,7 @@ pub data Command : Type 0 where
   Create : (schema settings : List ℕ) → Command
   Build : (name csv : List ℕ) → Command
   Drop : (name : List ℕ) → Command
+  Verify : (name : List ℕ) → Command
   Listing : Command
   Ask : (about : About) (sql : List ℕ) → Command
   -- the opening of a script, which no words of a command spell
@@ -24,6 +25,7 @@ command_of (verb ∷ first ∷ []) =
     else if bytes_eq verb (codes "explain") then Some (Ask Plans first)
     else if bytes_eq verb (codes "stats") then Some (Ask RowsAndPlans first)
     else if bytes_eq verb (codes "drop") && is_segment_name first then Some (Drop first)
+    else if bytes_eq verb (codes "verify") && is_segment_name first then Some (Verify first)
     else None
 command_of (verb ∷ first ∷ second ∷ []) =
     if bytes_eq verb (codes "scan") then Some (Scan first second)
@@ -38,6 +40,7 @@ writes (Some (Create schema settings)) = true
 writes (Some (Build name csv)) = true
 writes (Some (Drop name)) = true
 writes (Some (Scan file sql)) = false
+writes (Some (Verify name)) = false
 writes (Some Listing) = false
 writes (Some (Ask about sql)) = false
 writes (Some (Open file)) = false

@@ -10,11 +10,13 @@ command_view (code.Scan file sql) = spec.Scan file.now sql.now
 command_view (code.Create schema settings) = spec.Create schema.now settings.now
 command_view (code.Build name csv) = spec.Build name.now csv.now
 command_view (code.Drop name) = spec.Drop name.now
+command_view (code.Verify name) = spec.Verify name.now
 command_view code.List = spec.Listing
 command_view (code.Ask about sql) = spec.Ask about sql.now
 
--- the name of the segment that a command makes or drops is one
+-- the name of the segment that a command makes, drops or looks at is one
 abbrev pub IsNamed : Command → Type 0
 IsNamed (code.Build name csv) = IsSegmentName name.now
 IsNamed (code.Drop name) = IsSegmentName name.now
+IsNamed (code.Verify name) = IsSegmentName name.now
 IsNamed other = Unit {0}

@@ -17,6 +17,8 @@ pub enum Command<'a> {
     Build(&'a str, &'a str),
     /// A segment that is to go: its name.
     Drop(&'a str),
+    /// A segment whose file is to be looked at whole: its name.
+    Verify(&'a str),
     /// The segments.
     List,
     /// A query's text, and what it is asked for over the segments.
@@ -45,6 +47,9 @@ pub fn read_command(words: &[String]) -> Option<Command<'_>>
         }
         if verb.as_str().as_bytes() == b"drop".as_slice() && is_segment_name(first.as_str()) {
             return Some(Command::Drop(first.as_str()));
+        }
+        if verb.as_str().as_bytes() == b"verify".as_slice() && is_segment_name(first.as_str()) {
+            return Some(Command::Verify(first.as_str()));
         }
     }
     if let [verb, first, second] = words {
@@ -85,6 +90,7 @@ pub fn may_write(words: &[String]) -> bool
     }
     match read_command(words) {
         Some(Command::Create(_, _) | Command::Build(_, _) | Command::Drop(_)) => true,
-        Some(Command::Scan(_, _) | Command::List | Command::Ask(_, _)) | None => false,
+        Some(Command::Scan(_, _) | Command::Verify(_) | Command::List | Command::Ask(_, _))
+        | None => false,
     }
 }

@@ -10,7 +10,7 @@ use Rattle.table_store.proofs.DropLemmas.{got_left}
 use Rattle.command_words.specs.Command.{Drop}
 use Rattle.command_model.specs.Drop.{DropRefuses, dropped_text}
 use Rattle.command_model.specs.Gives.{LooksFor, Removes}
-use Rattle.command_model.specs.Profile.{NoFile, TableFile, drop_refuses, store_refuses}
+use Rattle.command_model.specs.Profile.{NoFile, TableFile, segment_refuses, store_refuses}
 use Rattle.command_model.specs.Ran.{Acted, Caused, Drops, IsAllowed, Ran}
 use Rattle.command_model.specs.Step.{Answer, Refuses, Replies}
 use Rattle.command_model.specs.Stored.{HasTableFile, TableRefuses}
@@ -39,7 +39,7 @@ kept_these names told now is = subst (SameButThese names told) (sym is) (names_s
 
 -- ---- refusals of the table
 
-first_line : (line : Note) → store_refuses line ≡ true → drop_refuses line ≡ true
+pub first_line : (line : Note) → store_refuses line ≡ true → segment_refuses line ≡ true
 first_line note.BadWords e = absurd cc
 first_line (note.NoInput file) e = absurd cc
 first_line (note.BadSchema wrong path) e = absurd cc

@@ -7,22 +7,25 @@ use Rattle.segment_file.specs.Names.{file_of}
 use Rattle.segment_build.specs.Publishing.{incoming}
 use Rattle.segment_reads.proofs.LogLemmas.{same_log}
 use Rattle.star_answer.specs.DocLaws.{DocsAreBounded}
+use Rattle.table_store.specs.Segments.{LacksSegment}
 use Rattle.table_store.specs.TableFile.{table_name}
-use Rattle.command_words.specs.Command.{Ask, Build, Command, Create, Drop, Listing, Open, Scan}
+use Rattle.command_words.specs.Command.{Ask, Build, Command, Create, Drop, Listing, Open, Scan, Verify}
 use Rattle.command_words.specs.declared.fault.Fault.TheVariants as fault
 use Rattle.command_words.specs.declared.stop.Stop.TheVariants as stop
 use Rattle.command_model.specs.Consulted.{AtMostRead}
-use Rattle.command_model.specs.Profile.{NoFile, Opens, StoreFiles, TableFile, csv_limit, script_limit}
+use Rattle.command_model.specs.Profile.{NoFile, Opens, SegmentFile, StoreFiles, TableFile, csv_limit, script_limit}
 use Rattle.command_model.specs.Ran.{Ran}
-use Rattle.command_model.specs.Touched.{IsStoreFile, LogsOpened, OnlyLooks, Touched, WritesThese}
+use Rattle.command_model.specs.Touched.{IsFileFor, IsStoreFile, LogsOpened, OnlyLooks, Touched, WritesThese}
 use Rattle.command_model.specs.World.{Devices}
 use Rattle.command_model.proofs.CreateLemmas.{names_same, no_files, no_front}
+use Rattle.command_model.proofs.StoredLemmas.{told_all}
 use Rattle.commands.proofs.ReadLemmas.{stored_heads, stored_table, unread}
 
 -- nothing is opened
 none_opened : (opens : Opens) (log : Option (List Entry)) → LogsOpened opens log log
 none_opened NoFile log = refl
 none_opened TableFile log = ([], same_log log, All-nil (λ entry. entry.file ≡ table_name))
+none_opened (SegmentFile name) log = ([], same_log log, All-nil (λ entry. IsFileFor name entry.file))
 none_opened StoreFiles log = ([], same_log log, All-nil (λ entry. IsStoreFile entry.file))
 
 looks : (opens : Opens) (s : Seen) → OnlyLooks opens s s
@@ -37,6 +40,7 @@ touched (Some (Scan file sql)) now = record { inputs = (now.inputs, no_front fil
 touched (Some (Create schema settings)) now = record { inputs = no_files schema settings now.inputs; depot = writes NoFile (table_name ∷ []) now.depot }
 touched (Some (Build name csv)) now = record { inputs = (now.inputs, no_front csv csv_limit now.inputs, refl); depot = writes TableFile (file_of name ∷ []) now.depot }
 touched (Some (Drop name)) now = record { inputs = refl; depot = writes TableFile (file_of name ∷ []) now.depot }
+touched (Some (Verify name)) now = record { inputs = refl; depot = looks (SegmentFile name) now.depot }
 touched (Some Listing) now = record { inputs = refl; depot = looks StoreFiles now.depot }
 touched (Some (Ask about sql)) now = record { inputs = refl; depot = looks StoreFiles now.depot }
 touched (Some (Open file)) now = record { inputs = (now.inputs, no_front file script_limit now.inputs, refl); depot = refl }
@@ -47,6 +51,7 @@ at_most law (Some (Scan file sql)) now = tt
 at_most law (Some (Create schema settings)) now = tt
 at_most law (Some (Build name csv)) now = tt
 at_most law (Some (Drop name)) now = tt
+at_most law (Some (Verify name)) now = told_all now.depot.held (λ files. LacksSegment (Some files) name → LogsOpened TableFile now.depot.log now.depot.log) (λ files lacks. none_opened TableFile now.depot.log)
 at_most law (Some Listing) now = stored_heads now.depot.held now.depot.log now.depot.log (unread now.depot.log now.depot.log refl)
 at_most law (Some (Ask about sql)) now = stored_table law about sql now.depot.held now.depot.log now.depot.log (unread now.depot.log now.depot.log refl)
 at_most law (Some (Open file)) now = tt

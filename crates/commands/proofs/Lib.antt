@@ -5,3 +5,4 @@ pub mod QueryLemmas
 pub mod DropLemmas
 pub mod ScriptLemmas
 pub mod IdleLemmas
+pub mod VerifyLemmas

@@ -4,13 +4,13 @@ ghost use Rattle.outside.specs.Seen.{Seen, seen};
 ghost use Rattle.segment_file.specs.Names.{file_of};
 ghost use Rattle.command_words.specs.Command.{Drop};
 ghost use Rattle.command_model.specs.Drop.{dropped_text};
-ghost use Rattle.command_model.specs.Gives.{IsMissingStop, Removes};
+ghost use Rattle.command_model.specs.Gives.{Removes};
 ghost use Rattle.command_model.specs.Profile.{NoFile};
 ghost use Rattle.command_model.specs.Ran.{Ran};
 ghost use Rattle.command_model.specs.Touched.{WritesThese};
 
-use command_model::stored_table;
-use command_words::{Fault, Note, Stop};
+use command_model::{no_segment, stored_table};
+use command_words::{Fault, Stop};
 use outside::{Bytes, Depot, Seq};
 use std::alloc::{AllocError, Global};
 use table_store::{StoreFault, drop_segment};
@@ -50,16 +50,6 @@ fn remove<D: Depot>(alloc: Global, name: &str, depot: &mut D) -> Result<Bytes, S
             | StoreFault::TooLarge
             | StoreFault::NotASegment(_),
         ) => unreachable!(),
-    }
-}
-
-// The refusal of a name that no segment has.
-fn no_segment(alloc: Global, name: &str) -> Stop
-    ensures { IsMissingStop name.now result }
-{
-    match name.as_bytes().to_vec(alloc) {
-        Ok(name) => Stop::Refused(Note::NoSegment(Seq::from_vec(name))),
-        Err(_) => Stop::Fault(Fault::Memory),
     }
 }
 

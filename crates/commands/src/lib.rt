@@ -9,3 +9,4 @@ pub mod list;
 pub mod query;
 pub mod scan;
 pub mod script;
+pub mod verify;

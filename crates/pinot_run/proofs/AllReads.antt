@@ -1,10 +1,12 @@
 -- What the lines of a script read of a segment, added up.
 use Rattle.std.proofs.Common.{◌≡◌, ◌≢◌, ◌∙◌, ◌≤◌, ◌+◌, ◌*◌, ◌++◌, ◌==◌, inl, inr, ℕ, Bool, true, false, List, [], ◌∷◌, All, Option, Some, None, Result, Ok, Err, IfSome, cond, option_map, slice_get, refl, sym, ap, subst, arith, append_assoc, append-nil}
 use Rattle.std.proofs.lemmas.Bool.Decides.{nat_tests}
+use Rattle.std.proofs.lemmas.Slice.Eq.{bytes_eq-Decides}
+use Rattle.std.specs.Str.{bytes_eq}
 use Rattle.std.proofs.lemmas.List.Elements.{All-head, All-tail}
 use Rattle.std.proofs.lemmas.List.Sums.{sum_by-cons}
 use Rattle.std.specs.FinMap as map
-use Rattle.std.specs.Prelude.{sum_by}
+use Rattle.std.specs.Prelude.{not, sum_by}
 use Rattle.outside.specs.Files.{Files}
 use Rattle.outside.specs.Reads.{Entry}
 use Rattle.outside.proofs.ReadLemmas.{read_in-append}
@@ -26,7 +28,7 @@ use Rattle.segment_reads.proofs.LogLemmas.{same_log}
 use Rattle.table_store.specs.Accepted.{IsAccepted}
 use Rattle.table_store.specs.Stands.{segment_of}
 use Rattle.table_store.specs.State.{HasTable, Segment, Segments, State, Texts}
-use Rattle.command_words.specs.Command.{Ask, Build, Command, Create, Drop, Listing, Open, Scan as ScanFile}
+use Rattle.command_words.specs.Command.{Ask, Build, Command, Create, Drop, Listing, Open, Scan as ScanFile, Verify}
 use Rattle.command_words.specs.Notes.{is_fault}
 use Rattle.command_words.specs.declared.about.About.TheVariants.{Plans, Rows, RowsAndPlans}
 use Rattle.command_words.specs.declared.status.Status.{Status}
@@ -35,7 +37,7 @@ use Rattle.command_model.specs.World.{Devices, Stage}
 use Rattle.pinot_run.specs.Headline.{Moves, ReadsOf}
 use Rattle.pinot_run.specs.Laws.{ReadsFor, ReadsSegment, ReadsState, is_done}
 use Rattle.pinot_run.specs.Script.{EndsAt, GoesOn, RunsLines}
-use Rattle.pinot_run.specs.ScriptReads.{Finishes, LinesRead, ReadsAll, ScriptReads, docs_of, is_scan, of_text, plan_docs, scans, takes_none}
+use Rattle.pinot_run.specs.ScriptReads.{Finishes, LinesRead, ReadsAll, ScriptReads, docs_of, goes_by_plan, is_scan, of_text, plan_docs, scans}
 use Rattle.pinot_run.specs.Text.{line_command}
 use Rattle.table_store.proofs.NameLemmas.{is_name}
 use Rattle.pinot_run.proofs.DoneLemmas.{not_done, write_not_done}
@@ -95,17 +97,26 @@ module _ (table : Table) (name : List ℕ) (rows : List (List Value)) where
   of_query done x (Ok query) r = of_plan query done x (plan_over query table rows) r
   of_query done x (Err wrong) r = none_of done x r
 
-  of_line : (command : Option Command) (done : Bool) (x : List Entry) → ReadsSegment command done table name rows x → OfPlan done (scans table rows command) (λ n. docs_of table rows n command) x
-  of_line None done x r = none_of done x r
-  of_line (Some (ScanFile file sql)) done x r = none_of done x r
-  of_line (Some (Create schema settings)) done x r = none_of done x r
-  of_line (Some (Build other csv)) done x r = none_of done x r
-  of_line (Some (Drop other)) done x r = none_of done x r
-  of_line (Some Listing) done x r = none_of done x r
-  of_line (Some (Ask Rows sql)) done x r = of_query done x (asked table false sql) r
-  of_line (Some (Ask Plans sql)) done x r = none_of done x r
-  of_line (Some (Ask RowsAndPlans sql)) done x r = of_query done x (asked table false sql) r
-  of_line (Some (Open file)) done x r = none_of done x r
+  -- one that looks at the whole file of a segment looks at that of another
+  of_other : (asked : List ℕ) → goes_by_plan name (Some (Verify asked)) ≡ true → name ≢ asked
+  of_other asked keeps same =
+      let test : bytes_eq asked name ≡ true = (bytes_eq-Decides asked name).1 (sym same) in
+      let no : goes_by_plan name (Some (Verify asked)) ≡ false = ap not test in
+      let both : true ≡ false = sym keeps ∙ no in
+      absurd cc
+
+  of_line : (command : Option Command) (done : Bool) (x : List Entry) → goes_by_plan name command ≡ true → ReadsSegment command done table name rows x → OfPlan done (scans table rows command) (λ n. docs_of table rows n command) x
+  of_line None done x keeps r = none_of done x r
+  of_line (Some (ScanFile file sql)) done x keeps r = none_of done x r
+  of_line (Some (Create schema settings)) done x keeps r = none_of done x r
+  of_line (Some (Build other csv)) done x keeps r = none_of done x r
+  of_line (Some (Drop other)) done x keeps r = none_of done x r
+  of_line (Some (Verify asked)) done x keeps r = none_of done x (r (of_other asked keeps))
+  of_line (Some Listing) done x keeps r = none_of done x r
+  of_line (Some (Ask Rows sql)) done x keeps r = of_query done x (asked table false sql) r
+  of_line (Some (Ask Plans sql)) done x keeps r = none_of done x r
+  of_line (Some (Ask RowsAndPlans sql)) done x keeps r = of_query done x (asked table false sql) r
+  of_line (Some (Open file)) done x keeps r = none_of done x r
 
   -- ---- lines
 
@@ -145,7 +156,7 @@ module _ (table : Table) (name : List ℕ) (rows : List (List Value)) where
 
 -- ---- the segment stays
 
-stays : (files : Files) (texts : Texts) (segments : Segments) (name : List ℕ) (segment : Segment) (command : Option Command) (from to : State) → takes_none command ≡ true → from ≡ HasTable texts segments → map.get segments name ≡ Some segment → Changes command files from to
+stays : (files : Files) (texts : Texts) (segments : Segments) (name : List ℕ) (segment : Segment) (command : Option Command) (from to : State) → goes_by_plan name command ≡ true → from ≡ HasTable texts segments → map.get segments name ≡ Some segment → Changes command files from to
     → (left : Segments) × (to ≡ HasTable texts left) × (map.get left name ≡ Some segment)
 stays files texts segments name segment command from to keeps is got (inl same) = (segments, same ∙ is, got)
 stays files texts segments name segment command from to keeps is got (inr (inl made)) = absurd (no_table texts segments (sym made.from_is ∙ is))
@@ -162,7 +173,7 @@ stays files texts segments name segment command from to keeps is got (inr (inr (
           (left, built.to_is ∙ ap (λ t. HasTable t left) own_texts, got_other built.segments built.name (segment_of built.table built.rows) name other ∙ there)
     ]
 stays files texts segments name segment command from to keeps is got (inr (inr (inr gone))) =
-    let no : takes_none command ≡ false = ap takes_none gone.command_is in
+    let no : goes_by_plan name command ≡ false = ap (goes_by_plan name) gone.command_is in
     let both : true ≡ false = sym keeps ∙ no in
     absurd cc
 
@@ -212,16 +223,16 @@ module _ (files : Files) (texts : Texts) (table : Table) (accepted : IsAccepted 
   Line line x = OfPlan table name segment.rows all_done (scans table segment.rows (line_command line)) (λ n. docs_of table segment.rows n (line_command line)) x
 
   -- a line that did P
-  one_line : (line : List ℕ) (segments : Segments) (old : Stage State) (said : Status) (new : Stage State) → Here segments old → P (line_command line) old said new
+  one_line : (line : List ℕ) (segments : Segments) (old : Stage State) (said : Status) (new : Stage State) → Here segments old → goes_by_plan name (line_command line) ≡ true → P (line_command line) old said new
       → (x : List Entry) × (new.devices.depot.log ≡ option_map (λ l. l ++ x) old.devices.depot.log) × IfSome old.devices.depot.log (λ before. Line line x)
-  one_line line segments old said new (is, got) p =
+  one_line line segments old said new (is, got) keeps p =
       let m = to (line_command line) old said new p in
       let reads : ReadsState (line_command line) (is_done said) table segments old.devices.depot.log new.devices.depot.log =
       subst (λ s. ReadsOf s (line_command line) said old.devices new.devices) is m.reads table accepted in
       let (x, made, among) = reads.files in
       let own = told_of (ReadsSegment (line_command line) (is_done said) table name segment.rows) old.devices.depot.log new.devices.depot.log x made (reads.each name segment got) in
       let by : ReadsSegment (line_command line) (is_done said) table name segment.rows x → Line line x = λ r.
-      let plan = of_line table name segment.rows (line_command line) (is_done said) x r in
+      let plan = of_line table name segment.rows (line_command line) (is_done said) x keeps r in
       record { raw = plan.raw; stars = λ n setting there. weak (line_command line) old said new p _ _ (plan.stars n setting there) } in
       (x, made, told_as old.devices.depot.log (ReadsSegment (line_command line) (is_done said) table name segment.rows x) (Line line x) by own)
 
@@ -238,7 +249,7 @@ module _ (files : Files) (texts : Texts) (table : Table) (accepted : IsAccepted 
     | inr (fine, same, cut) ↦ ap (λ (d : Devices). d.depot.log) cut.devices
   ]
 
-  lines_read : (lines : List (List ℕ)) (segments : Segments) (old : Stage State) (ended : Status) (new : Stage State) → Here segments old → All (λ line. takes_none (line_command line) ≡ true) lines → (all_done ≡ true → ended ≡ status.Done) → RunsLines P lines old ended new
+  lines_read : (lines : List (List ℕ)) (segments : Segments) (old : Stage State) (ended : Status) (new : Stage State) → Here segments old → All (λ line. goes_by_plan name (line_command line) ≡ true) lines → (all_done ≡ true → ended ≡ status.Done) → RunsLines P lines old ended new
       → Grew (LinesRead table name segment.rows lines all_done) old.devices.depot.log new.devices.depot.log
   lines_read [] segments old ended new here keeps ends (done, same) = record {
     entries = [];
@@ -246,18 +257,18 @@ module _ (files : Files) (texts : Texts) (table : Table) (accepted : IsAccepted 
     told = always old.devices.depot.log (no_lines table name segment.rows all_done);
   }
   lines_read (line ∷ lines) segments old ended new here keeps ends (inl e) =
-      let (x, made, told) = one_line line segments old e.said e.between here e.does in
+      let (x, made, told) = one_line line segments old e.said e.between here (All-head (λ l. goes_by_plan name (line_command l) ≡ true) line lines keeps) e.does in
       record {
         entries = x;
         made = end_log line old ended new e ∙ made;
         told = told_as old.devices.depot.log (Line line x) (LinesRead table name segment.rows (line ∷ lines) all_done x) (last_line table name segment.rows all_done line lines x (λ flag. ends_not line old ended new e (ends flag))) told;
       }
   lines_read (line ∷ lines) segments old ended new here keeps ends (inr (next, goes, rest)) =
-      let (x, made, told) = one_line line segments old goes.said goes.between here goes.does in
+      let (x, made, told) = one_line line segments old goes.said goes.between here (All-head (λ l. goes_by_plan name (line_command l) ≡ true) line lines keeps) goes.does in
       let grown : next.devices.depot.log ≡ option_map (λ l. l ++ x) old.devices.depot.log = ap (λ (d : Devices). d.depot.log) goes.marked.devices ∙ made in
-      let (left, is, got) = stays files texts segments name segment (line_command line) old.kept goes.between.kept (All-head (λ l. takes_none (line_command l) ≡ true) line lines keeps) here.0 here.1
+      let (left, is, got) = stays files texts segments name segment (line_command line) old.kept goes.between.kept (All-head (λ l. goes_by_plan name (line_command l) ≡ true) line lines keeps) here.0 here.1
       (moves files (line_command line) old goes.said goes.between (to (line_command line) old goes.said goes.between goes.does)) in
-      let more = lines_read lines left next ended new (goes.marked.kept ∙ is, got) (All-tail (λ l. takes_none (line_command l) ≡ true) line lines keeps) ends rest in
+      let more = lines_read lines left next ended new (goes.marked.kept ∙ is, got) (All-tail (λ l. goes_by_plan name (line_command l) ≡ true) line lines keeps) ends rest in
       grew_then (Line line) (LinesRead table name segment.rows lines all_done) (LinesRead table name segment.rows (line ∷ lines) all_done) old.devices.depot.log next.devices.depot.log new.devices.depot.log x grown told more
       (λ y. one_more table name segment.rows all_done line lines x y)
 

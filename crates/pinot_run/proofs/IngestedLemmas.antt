@@ -19,7 +19,7 @@ use Rattle.table_store.specs.State.{HasTable, NoTable, Segment, Segments, State,
 use Rattle.table_store.proofs.DropLemmas.{got_left, got_none}
 use Rattle.table_store.proofs.FilesLemmas.{other_name}
 use Rattle.table_store.proofs.NameLemmas.{is_name}
-use Rattle.command_words.specs.Command.{Ask, Build, Command, Create, Drop, Listing, Open, Scan}
+use Rattle.command_words.specs.Command.{Ask, Build, Command, Create, Drop, Listing, Open, Scan, Verify}
 use Rattle.command_words.specs.declared.about.About.TheVariants.{Rows, RowsAndPlans}
 use Rattle.command_words.specs.declared.note.Note.{Note}
 use Rattle.command_words.specs.declared.status.Status.{Status}
@@ -127,6 +127,7 @@ changes NoTable (Some (Build name csv)) files = inl refl
 changes (HasTable texts segments) (Some (Build name csv)) files = table_changes name csv files texts segments (table_of texts) refl
 changes NoTable (Some (Drop name)) files = inl refl
 changes (HasTable texts segments) (Some (Drop name)) files = dropped_changes name files texts segments (is_some (map.get segments name)) refl
+changes from (Some (Verify name)) files = inl refl
 changes from (Some Listing) files = inl refl
 changes from (Some (Ask about sql)) files = inl refl
 changes from (Some (Open file)) files = inl refl

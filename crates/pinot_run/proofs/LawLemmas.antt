@@ -5,11 +5,11 @@ use Rattle.outside.specs.Seen.{Seen}
 use Rattle.table_store.specs.State.{State}
 use Rattle.table_store.specs.Stands.{Stands}
 use Rattle.pinot_run.specs.Laws.{PromisesCompose}
-use Rattle.command_model.specs.Profile.{profile}
+use Rattle.command_model.specs.Profile.{AnyPlace, Front, Portion, profile}
 use Rattle.pinot_run.specs.Promise.{IsStep}
 use Rattle.command_model.specs.Ran.{WhereStands}
 use Rattle.command_model.specs.Step.{step_of}
-use Rattle.command_model.specs.Touched.{Reads}
+use Rattle.command_model.specs.Touched.{Reads, ReadsPortion}
 
 by_told : (held stored : Option Files) (Q : State → Files → Type 0) → ((state : State) (files kept : Files) → held ≡ Some files → stored ≡ Some kept → Stands kept state → Q state files) → WhereStands held stored Q
 by_told None stored Q f = tt
@@ -26,9 +26,13 @@ told_one None P h = absurd h
 told_one (Some x) P h = (x, refl, h)
 
 -- the input files stay what is told
-pub same_held : (files : List (List ℕ × ℕ)) (old new : Seen) → Reads files old new → new.held ≡ old.held
+same_told : (file : List ℕ) (portion : Portion) (old new : Seen) → ReadsPortion file portion old new → new.held ≡ old.held
+same_told file (Front limit) old new read = read.held
+same_told file AnyPlace old new read = read.held
+
+pub same_held : (files : List (List ℕ × Portion)) (old new : Seen) → Reads files old new → new.held ≡ old.held
 same_held [] old new same = ap (λ s. s.held) same
-same_held (file ∷ others) old new (mid, front, rest) = same_held others mid new rest ∙ front.held
+same_held (file ∷ others) old new (mid, read, rest) = same_held others mid new rest ∙ same_told file.0 file.1 old mid read
 
 pub compose : PromisesCompose
 compose first second old mid new ended later one two fine unchanged =

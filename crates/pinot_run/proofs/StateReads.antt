@@ -8,7 +8,7 @@ use Rattle.std.proofs.lemmas.List.Folds.{list_any_at}
 use Rattle.std.specs.FinMap as map
 use Rattle.std.specs.List.{AllZip, Contains, list_any}
 use Rattle.std.specs.Ordering.{eq_by_cmp}
-use Rattle.std.specs.Prelude.{is_some, map as each}
+use Rattle.std.specs.Prelude.{IfSome, is_some, map as each, option_map}
 use Rattle.outside.specs.Files.{Files, name_order}
 use Rattle.outside.specs.Reads.{Entry, read_by, read_in}
 use Rattle.outside.proofs.ReadLemmas.{read_by-apart, read_by-other, read_in-cons}
@@ -30,26 +30,26 @@ use Rattle.segment_reads.proofs.GrownLemmas.{grown_so, same_name}
 use Rattle.segment_reads.proofs.HeadReads.{opened_entry}
 use Rattle.segment_reads.proofs.LogLemmas.{entries_as, fewer_summed}
 use Rattle.table_store.specs.Accepted.{IsAccepted}
-use Rattle.table_store.specs.Segments.{AreFirstNames, has_segment}
-use Rattle.table_store.specs.Stands.{Stands}
+use Rattle.table_store.specs.Segments.{AreFirstNames, LacksSegment, has_segment}
+use Rattle.table_store.specs.Stands.{Stands, segment_file}
 use Rattle.table_store.specs.State as state
 use Rattle.table_store.specs.State.{HasTable, Segment, Segments}
 use Rattle.table_store.specs.TableFile.{table_file, table_name}
 use Rattle.table_store.proofs.AcceptedLemmas.{accepted_valid}
-use Rattle.table_store.proofs.KeyLemmas.{keys_stand}
+use Rattle.table_store.proofs.KeyLemmas.{keys_stand, segment_there}
 use Rattle.table_store.proofs.NameLemmas.{is_name, tied_name}
 use Rattle.table_store.proofs.StandsLemmas.{table_there}
-use Rattle.command_words.specs.Command.{Ask, Build, Command, Create, Drop, Listing, Open, Scan}
+use Rattle.command_words.specs.Command.{Ask, Build, Command, Create, Drop, Listing, Open, Scan, Verify}
 use Rattle.command_model.specs.Consulted.{Consulted, IsFileAmong, ReadsAbout, ReadsAsked, ReadsEach, ReadsHeads, ReadsStored}
 use Rattle.pinot_run.specs.Laws.{IsLiveFile, ReadsFor, ReadsSegment, ReadsState, SegmentsRead, is_done}
 use Rattle.command_words.specs.Notes.{status_of}
-use Rattle.command_model.specs.Profile.{TableFile}
+use Rattle.command_model.specs.Profile.{SegmentFile, TableFile}
 use Rattle.pinot_run.specs.Promise.{Promise}
 use Rattle.command_model.specs.Queried.{rows_in}
 use Rattle.command_model.specs.Ran.{IsAllowed}
 use Rattle.command_model.specs.Step.{Answer, Refuses, Replies, status_after}
 use Rattle.command_model.specs.Stored.{HasTableFile}
-use Rattle.command_model.specs.Touched.{LogsOpened}
+use Rattle.command_model.specs.Touched.{IsFileFor, LogsOpened}
 use Rattle.command_model.specs.World.{Devices, World}
 use Rattle.command_words.specs.declared.about.About.{About}
 use Rattle.command_words.specs.declared.about.About.TheVariants.{Plans, Rows, RowsAndPlans}
@@ -215,6 +215,31 @@ module _ (stored : Files) (texts : state.Texts) (segments : Segments) (stands : 
         → ReadsState command done table segments a b
     table_state command done to log = none_read command done to (table_heads table stored (map.keys segments) a b log)
 
+    -- what `verify` reads, by whether there is a segment of its name: of no other segment anything
+    own_file : (asked : List ℕ) → is_some (map.get segments asked) ≡ true → (file : List ℕ) → IsFileFor asked file → IsLiveFile segments file
+    own_file asked some file (inl is) = inl is
+    own_file asked some file (inr is) = inr (asked, some, is)
+
+    other_file : (asked name : List ℕ) → name ≢ asked → (file : List ℕ) → IsFileFor asked file → file ≢ file_of name
+    other_file asked name apart file (inl is) = λ same. not_table name (sym same ∙ is)
+    other_file asked name apart file (inr is) = λ same. apart (same_name name asked (sym same ∙ is))
+
+    verify_state : (asked : List ℕ) (done : Bool) (o : Option Segment) → map.get segments asked ≡ o → LogsOpened (SegmentFile asked) a b → (LacksSegment (Some stored) asked → LogsOpened TableFile a b) → ReadsState (Some (Verify asked)) done table segments a b
+    verify_state asked done None got log none =
+        let lacks : LacksSegment (Some stored) asked = segment_there stored texts segments stands asked ∙ ap (option_map (segment_file stands.table asked)) got in
+        none_read (Some (Verify asked)) done (λ name rows entries h other. h) (table_heads table stored (map.keys segments) a b (none lacks))
+    verify_state asked done (Some segment) got (x, made, all) none = record {
+      files = (x, made, λ k d lt. own_file asked (ap is_some got) (get_or x k d).file (all k d lt));
+      each = λ name own there.
+          grown_so (ReadsSegment (Some (Verify asked)) done table name own.rows) a b x made
+          (λ apart.
+          let others = λ (k : ℕ) (d : Entry) (lt : k < length x). inl (other_file asked name apart (get_or x k d).file (all k d lt)) in
+          record {
+            raw = none_within (file_of name) 0 (raw_span table name own.rows).from (raw_span table name own.rows).to x (omega arith) others;
+            stars = λ t. none_within (file_of name) 0 (star_span table name own.rows t).from (star_span table name own.rows t).to x (omega arith) others;
+          });
+    }
+
   -- ---- by the promise
 
   at_table : (P : Table → Files → List (List ℕ) → Option (List Entry) → Option (List Entry) → Type 0) (held : Option Files) (a b : Option (List Entry)) → held ≡ Some stored → ReadsStored P held a b → P table stored (map.keys segments) a b
@@ -239,6 +264,9 @@ module _ (stored : Files) (texts : state.Texts) (segments : Segments) (stands : 
       table_state old.devices.depot.log new.devices.depot.log (Some (Create schema settings)) (is_done ended) (λ name rows entries h. h) (unread old.devices.depot.log new.devices.depot.log p.touched.depot.log)
   read_so (Some (Build name csv)) old new ended p told = table_state old.devices.depot.log new.devices.depot.log (Some (Build name csv)) (is_done ended) (λ name rows entries h. h) p.touched.depot.log
   read_so (Some (Drop name)) old new ended p told = table_state old.devices.depot.log new.devices.depot.log (Some (Drop name)) (is_done ended) (λ name rows entries h. h) p.touched.depot.log
+  read_so (Some (Verify name)) old new ended p told =
+      verify_state old.devices.depot.log new.devices.depot.log name (is_done ended) (map.get segments name) refl p.touched.depot.log
+      (subst (λ h. IfSome h (λ files. LacksSegment (Some files) name → LogsOpened TableFile old.devices.depot.log new.devices.depot.log)) told p.reads)
   read_so (Some Listing) old new ended p told =
       none_read old.devices.depot.log new.devices.depot.log (Some Listing) (is_done ended) (λ name rows entries h. h) (at_table ReadsHeads old.devices.depot.held old.devices.depot.log new.devices.depot.log told p.reads)
   read_so (Some (Open file)) old new ended p told =

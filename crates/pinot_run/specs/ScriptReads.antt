@@ -1,7 +1,8 @@
 -- What the lines of a script read of a segment that there is before them: what the plan of its rows
 -- says for each line, added up.
-use Rattle.std.specs.Prelude.{◌≡◌, ◌*◌, ◌==◌, ℕ, Bool, true, false, List, All, Option, Some, Result, Ok, Err, if◌then◌else◌, slice_get, sum_by}
+use Rattle.std.specs.Prelude.{◌≡◌, ◌*◌, ◌==◌, ℕ, Bool, true, false, List, All, Option, Some, Result, Ok, Err, if◌then◌else◌, not, slice_get, sum_by}
 use Rattle.std.specs.FinMap as tree
+use Rattle.std.specs.Str.{bytes_eq}
 use Rattle.outside.specs.Files.{Files}
 use Rattle.outside.specs.Reads.{Entry}
 use Rattle.values.specs.declared.value.Value.{Value}
@@ -19,7 +20,7 @@ use Rattle.segment_reads.specs.Docs.{docs_read}
 use Rattle.segment_reads.specs.Reads.{AreBytes, Grown, bytes_read, raw_span, star_span}
 use Rattle.table_store.specs.Accepted.{IsAccepted}
 use Rattle.table_store.specs.State.{HasTable, Segment, Segments, State, Texts}
-use Rattle.command_words.specs.Command.{Ask, Command, Drop}
+use Rattle.command_words.specs.Command.{Ask, Command, Drop, Verify}
 use Rattle.command_words.specs.declared.about.About.TheVariants.{Rows, RowsAndPlans}
 use Rattle.command_words.specs.declared.status.Status.{Status}
 use Rattle.command_words.specs.declared.status.Status.TheVariants as status
@@ -28,10 +29,12 @@ use Rattle.pinot_run.specs.Headline.{Moves}
 use Rattle.pinot_run.specs.Script.{RunsLines}
 use Rattle.pinot_run.specs.Text.{line_command}
 
--- whether a command takes no segment away
-abbrev pub takes_none : Option Command → Bool
-takes_none (Some (Drop name)) = false
-takes_none command = true
+-- whether a command takes no segment away, and does not look at the whole file of the one of this
+-- name
+abbrev pub goes_by_plan : List ℕ → Option Command → Bool
+goes_by_plan name (Some (Drop dropped)) = false
+goes_by_plan name (Some (Verify asked)) = not (bytes_eq asked name)
+goes_by_plan name command = true
 
 -- ---- the plan of a segment for a line
 
@@ -88,8 +91,8 @@ pub record Finishes (files : Files) (command : Option Command) (old : Stage Stat
   pub moves : Moves files command old ended new
   pub done : ended ≡ status.Done
 
--- of a segment of a state lines of which none drops read so: just so where each was done, and else
--- at most so
+-- of a segment of a state lines of which none drops one, or looks at the whole of this one, read
+-- so: just so where each was done, and else at most so
 pub record ReadsAll (files : Files) (table : Table) (name : List ℕ) (rows : List (List Value))
     (lines : List (List ℕ)) (old new : Stage State) : Type 0 where
   pub at_most : (ended : Status) → RunsLines (Moves files) lines old ended new
@@ -103,5 +106,5 @@ ScriptReads = (files : Files) (texts : Texts) (segments : Segments) (table : Tab
     (segment : Segment) (lines : List (List ℕ)) (old new : Stage State)
     → old.kept ≡ HasTable texts segments → IsAccepted texts table
     → tree.get segments name ≡ Some segment
-    → All (λ line. takes_none (line_command line) ≡ true) lines
+    → All (λ line. goes_by_plan name (line_command line) ≡ true) lines
     → ReadsAll files table name segment.rows lines old new

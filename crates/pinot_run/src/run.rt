@@ -20,6 +20,7 @@ use commands::drop::drop_named;
 use commands::list::list;
 use commands::query::ask;
 use commands::scan::scan;
+use commands::verify::verify;
 use outside::{Bytes, Depot, Shelf, Sink};
 use std::alloc::Global;
 
@@ -72,8 +73,8 @@ pub fn run_command<I: Shelf, D: Depot, O: Sink, N: Sink>(
         (devices I.Shelf D.Shelf inputs.new depot.new)) }
 
     // Of each segment no more is read than the plan of its rows says, whatever the status is; for a
-    // text that is no query over the table nothing, and for `explain` and `list` no byte past its
-    // head.
+    // text that is no query over the table nothing, for `explain` and `list` no byte past its head,
+    // and for `verify` nothing where there is none of its name.
     ensures reads { OfOne (call_of (map string_bytes words.now)) (λ command. AtMostRead command
         (devices I.Shelf D.Shelf inputs.old depot.old)
         (devices I.Shelf D.Shelf inputs.new depot.new)) }
@@ -123,6 +124,7 @@ fn reply_to<I: Shelf, D: Depot>(
         Some(Command::Create(schema, settings)) => create(alloc, schema, settings, inputs, depot),
         Some(Command::Build(name, csv)) => build(alloc, name, csv, inputs, depot),
         Some(Command::Drop(name)) => drop_named(alloc, name, depot),
+        Some(Command::Verify(name)) => verify(alloc, name, depot),
         Some(Command::List) => list(alloc, depot),
         Some(Command::Ask(about, sql)) => ask(alloc, about, sql, depot),
         None => Err(Stop::Refused(Note::BadWords)),
