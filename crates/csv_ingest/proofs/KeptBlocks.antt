@@ -1,5 +1,5 @@
 -- Blocks of which all columns are kept.
-use Rattle.std.proofs.Common.{◌≡◌, ◌∙◌, List, [], Option, Some, None, MatchOption, Result, Ok, Err, IfOk, sym, ap}
+use Rattle.std.proofs.Common.{◌≡◌, ◌∙◌, [], Option, Some, None, MatchOption, Result, Ok, Err, IfOk, sym, ap}
 use Rattle.values.specs.Columns.{ListedColumns, rows_of}
 use Rattle.csv_row.specs.InOrder.{after}
 use Rattle.csv_row.specs.declared.fault.CsvFault.{CsvFault}

@@ -1,18 +1,16 @@
 -- Columns of which some are kept.
-use Rattle.std.proofs.Common.{◌≡◌, ◌≢◌, ◌∙◌, ◌<◌, ◌≤◌, ◌+◌, ◌-◌, ◌*◌, ◌++◌, ◌==◌, ◌⊎◌, inl, inr, ℕ, zero, suc, pos, ℤ, List, [], ◌∷◌, length, map, set, get_or, Bool, true, false, nat_lt, Option, Some, None, Result, Ok, IfSome, refl, sym, ap, subst, arith, append-nil, append_assoc, length-append, add-one}
+use Rattle.std.proofs.Common.{◌≡◌, ◌≢◌, ◌∙◌, ◌<◌, ◌≤◌, ◌+◌, ◌-◌, ◌*◌, ◌++◌, ◌==◌, ◌⊎◌, inl, inr, ℕ, zero, suc, pos, ℤ, List, [], ◌∷◌, length, set, get_or, Bool, true, false, nat_lt, Option, Some, None, Result, Ok, IfSome, refl, sym, ap, subst, arith, append-nil, append_assoc, length-append}
 use Rattle.std.proofs.lemmas.Bool.Decides.{nat_tests}
 use Rattle.std.proofs.lemmas.List.{get_or-set_other, get_or-set_same, length-set}
-use Rattle.std.specs.List.{All}
 use Rattle.data_types.specs.Numbers.{whole_of}
 use Rattle.data_types.specs.declared.kind.FieldKind.TheVariants.{Long, Text}
-use Rattle.values.specs.Columns.{Counts, Listed, ListedColumns, pushed}
+use Rattle.values.specs.Columns.{Listed, pushed}
 use Rattle.values.specs.declared.value.Value.{Value}
 use Rattle.values.specs.declared.value.Value.TheVariants.{Whole}
 use Rattle.table_schema.specs.declared.field.Field.{Field}
-use Rattle.csv_row.specs.Columns.{OfSorts}
 use Rattle.csv_row.specs.Row.{cell_value}
 use Rattle.csv_row.specs.declared.fault.CsvKind.{CsvKind}
-use Rattle.csv_ingest.specs.Parts.{AddsPart, AddsValues, IsPart, ReadsPart, cell_at, field_value, line_cells}
+use Rattle.csv_ingest.specs.Parts.{AddsValues, IsPart, cell_at, field_value, line_cells}
 use Rattle.csv_ingest.specs.Kept.{Grown, KeepsPart, KeepsValues}
 use Rattle.csv_ingest.specs.Plain.{HasPlainCells}
 use Rattle.csv_ingest.specs.declared.parts.Part.{Part}

@@ -1,5 +1,5 @@
 -- The rows of lines, where some columns are not kept.
-use Rattle.std.proofs.Common.{◌≡◌, ◌∙◌, ◌<◌, ◌+◌, ℕ, suc, Bool, true, List, [], ◌∷◌, length, get_or, refl, sym, ap₂, subst, arith}
+use Rattle.std.proofs.Common.{◌≡◌, ◌∙◌, ◌<◌, ℕ, suc, Bool, List, [], ◌∷◌, length, get_or, refl, sym, ap₂, subst, arith}
 use Rattle.values.specs.Columns.{Listed, ListedColumns, rows_in_columns, rows_of}
 use Rattle.table_schema.specs.declared.field.Field.{Field}
 use Rattle.csv_row.specs.Columns.{OfSorts}

@@ -1,16 +1,16 @@
 -- Cells of plain lines are numbers.
-use Rattle.std.proofs.Common.{◌≡◌, ◌≢◌, ◌∙◌, ◌<◌, ◌≤◌, ◌+◌, ◌-◌, ◌*◌, ◌^◌, ◌++◌, ◌&&◌, ◌||◌, ◌==◌, ◌⊎◌, inl, inr, ℕ, zero, suc, ℤ, List, [], ◌∷◌, length, take, drop, get_or, Bool, true, false, not, nat_lt, Some, Ok, refl, sym, ap, ap₂, subst, arith, add-one}
+use Rattle.std.proofs.Common.{◌≡◌, ◌∙◌, ◌<◌, ◌≤◌, ◌+◌, ◌-◌, ◌*◌, ◌^◌, ◌++◌, ◌&&◌, ◌==◌, ◌⊎◌, inl, inr, ℕ, zero, suc, ℤ, List, [], ◌∷◌, length, take, drop, get_or, Bool, true, false, nat_lt, Some, Ok, refl, sym, ap, subst, arith, add-one}
 use Rattle.std.proofs.Math.Nat.{mul-le-mul_right, pow-le-pow_right, pow-suc}
 use Rattle.std.proofs.Math.Seq.{drop-cons}
 use Rattle.std.proofs.lemmas.Bool.Decides.{nat_tests}
 use Rattle.std.proofs.lemmas.List.{get_or-drop, length-drop, length-take, take_more}
 use Rattle.std.specs.List.{list_all}
-use Rattle.data_types.specs.Numbers.{is_digit, negative, place_value, range_of, unsigned_number, whole_of}
+use Rattle.data_types.specs.Numbers.{is_digit, negative, place_value, unsigned_number, whole_of}
 use Rattle.data_types.specs.declared.kind.FieldKind.TheVariants.{Long}
 use Rattle.csv_ingest.specs.Lines.{EndsCell}
 use Rattle.csv_ingest.specs.Parts.{AreMarks, IsLineAt, IsPart, cell_at, mark_at}
 use Rattle.csv_ingest.specs.Places.{is_separator}
-use Rattle.csv_ingest.specs.Plain.{ArePlain, AreShort, HasPlainCells, is_break, is_plain}
+use Rattle.csv_ingest.specs.Plain.{ArePlain, HasPlainCells, is_plain}
 use Rattle.csv_ingest.specs.declared.parts.Part.{Part}
 use Rattle.csv_ingest.proofs.DigitLemmas.{whole-minus, whole-plus}
 use Rattle.csv_ingest.proofs.MarkedLines.{and-left, cell-is, other}

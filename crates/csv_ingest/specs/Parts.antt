@@ -10,8 +10,10 @@ use Rattle.table_schema.specs.ValidTable.{most_rows}
 use Rattle.table_schema.specs.declared.field.Field.{Field}
 use Rattle.csv_row.specs.Columns.{OfSorts}
 use Rattle.csv_row.specs.InOrder.{after}
+use Rattle.csv_row.specs.Layouts.{IsLayout}
 use Rattle.csv_row.specs.Row.{cell_value}
 use Rattle.csv_row.specs.declared.fault.CsvKind.{CsvKind}
+use Rattle.csv_row.specs.declared.layout.Layout.{Layout}
 use Rattle.csv_ingest.specs.Blocks.{rows_from}
 use Rattle.csv_ingest.specs.Lines.{AreLines, AtLineEnd, StartsCell}
 use Rattle.csv_ingest.specs.Places.{is_separator, places}
@@ -57,6 +59,13 @@ pub record IsPart (part : Part) : Type 0 where
   pub lines : (r : ℕ) → r < part.rows → IsLineAt part.text.now part.places.now part.width part.step
       (r * part.step)
   pub last : part.last ≡ part.rows * part.step
+
+-- the lines have a cell for each name of a header, and there is a column for each field over it
+pub record FitsPart (p : Part) (l : Layout) (held : List Listed) : Type 0 where
+  pub part : IsPart p
+  pub layout : IsLayout l
+  pub width : p.width ≡ length l.names.now
+  pub sorts : OfSorts l.fields.now held
 
 -- the value of a field whose place is this, in the cells of a line
 abbrev pub field_value : Field → Option ℕ → List (List ℕ) → Result Value CsvKind

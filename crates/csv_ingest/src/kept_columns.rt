@@ -1,8 +1,8 @@
 //! The rows of a part of a text, where some columns are not kept.
 ghost use Rattle.std.specs.Prelude.{◌≡◌, ◌<◌, ◌≤◌, ℕ, true, false, length, get_or, IfOk, IfSome, OnOk};
-ghost use Rattle.csv_row.specs.Columns.{DefaultFits, OfSorts, is_text_kind};
-ghost use Rattle.csv_row.specs.Layouts.{IsLayout, header_of};
-ghost use Rattle.csv_ingest.specs.Parts.{IsPart, field_value, line_cells};
+ghost use Rattle.csv_row.specs.Columns.{DefaultFits, is_text_kind};
+ghost use Rattle.csv_row.specs.Layouts.{header_of};
+ghost use Rattle.csv_ingest.specs.Parts.{FitsPart, IsPart, field_value, line_cells};
 ghost use Rattle.csv_ingest.specs.Kept.{Grown, KeepsPart, KeepsValues, ReadsKept};
 ghost use Rattle.csv_ingest.specs.Plain.{HasPlainCells};
 
@@ -22,11 +22,8 @@ pub fn push_kept(
     kept: &[bool],
     columns: &mut Vec<Column>,
 ) -> Result<bool, AllocError>
-    requires part { IsPart part }
+    requires fits { FitsPart part layout.now columns.old.items }
     requires some { 0 < part.rows }
-    requires layout { IsLayout layout.now }
-    requires width { part.width ≡ length layout.now.names.now }
-    requires sorts { OfSorts layout.now.fields.now columns.old.items }
     ensures { IfOk result (λ done. done ≡ true → ReadsKept layout.now.fields.now
         (header_of layout.now) kept.now part.entry.text.now columns.old.items columns.new.items
         part.entry.rows (get_or part.entry.places.now part.entry.last 0)) }
@@ -66,11 +63,8 @@ fn push_plain(
     kept: &[bool],
     columns: &mut Vec<Column>,
 ) -> Result<bool, AllocError>
-    requires part { IsPart part }
+    requires fits { FitsPart part layout.now columns.old.items }
     requires plain { HasPlainCells part }
-    requires layout { IsLayout layout.now }
-    requires width { part.width ≡ length layout.now.names.now }
-    requires sorts { OfSorts layout.now.fields.now columns.old.items }
     ensures { IfOk result (λ done. done ≡ true → KeepsPart kept.now part.entry
         layout.now.fields.now layout.now.places.items columns.old.items columns.new.items) }
 {

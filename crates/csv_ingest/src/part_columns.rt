@@ -1,11 +1,11 @@
 //! The rows of a part of a text, column by column.
 ghost use Rattle.std.specs.Prelude.{◌≡◌, ◌<◌, ◌≤◌, ◌+◌, ◌*◌, ℕ, true, false, length, get_or, IfOk, IfSome, Ok};
-ghost use Rattle.csv_row.specs.Columns.{DefaultFits, OfSorts, Pushes, is_text_kind};
-ghost use Rattle.csv_row.specs.Layouts.{IsLayout, header_of};
+ghost use Rattle.csv_row.specs.Columns.{DefaultFits, Pushes, is_text_kind};
+ghost use Rattle.csv_row.specs.Layouts.{header_of};
 ghost use Rattle.csv_row.specs.Row.{cell_value};
 ghost use Rattle.values.specs.Columns.{is_text};
 ghost use Rattle.values.specs.declared.value.Value.TheVariants as value;
-ghost use Rattle.csv_ingest.specs.Parts.{AddsPart, AddsValues, AreMarks, IsPart, ReadsPart, cell_at, field_value, line_cells};
+ghost use Rattle.csv_ingest.specs.Parts.{AddsPart, AddsValues, AreMarks, FitsPart, IsPart, ReadsPart, cell_at, field_value, line_cells};
 
 use crate::parts::Part;
 use csv_row::{Layout, push_value};
@@ -20,11 +20,8 @@ pub fn push_part(
     layout: &Layout,
     columns: &mut Vec<Column>,
 ) -> Result<bool, AllocError>
-    requires part { IsPart part }
+    requires fits { FitsPart part layout.now columns.old.items }
     requires some { 0 < part.rows }
-    requires layout { IsLayout layout.now }
-    requires width { part.width ≡ length layout.now.names.now }
-    requires sorts { OfSorts layout.now.fields.now columns.old.items }
     ensures { IfOk result (λ done. done ≡ true → ReadsPart layout.now.fields.now
         (header_of layout.now) part.entry.text.now columns.old.items columns.new.items
         part.entry.rows (get_or part.entry.places.now part.entry.last 0)) }
@@ -38,10 +35,7 @@ fn push_fields(
     layout: &Layout,
     columns: &mut Vec<Column>,
 ) -> Result<bool, AllocError>
-    requires part { IsPart part }
-    requires layout { IsLayout layout.now }
-    requires width { part.width ≡ length layout.now.names.now }
-    requires sorts { OfSorts layout.now.fields.now columns.old.items }
+    requires { FitsPart part layout.now columns.old.items }
     ensures { IfOk result (λ done. done ≡ true → AddsPart part.entry layout.now.fields.now
         layout.now.places.items columns.old.items columns.new.items) }
 {

@@ -29,5 +29,5 @@ returns c =
     ok-at c.push_plain.result
     (λ (done : Bool). done ≡ true → KeepsPart c.args.kept.now part layout.fields.now layout.places.items old new)
     (λ (done : Bool). done ≡ true → ReadsKept layout.fields.now (map now layout.names.now) c.args.kept.now part.text.now old new part.rows (get_or part.places.now part.last 0))
-    (λ done keeps e. reads-kept c.args.kept.now part c.requires.part layout c.requires.layout c.requires.width old new c.requires.sorts (keeps e) c.requires.some)
+    (λ done keeps e. reads-kept c.args.kept.now part c.requires.fits.part layout c.requires.fits.layout c.requires.fits.width old new c.requires.fits.sorts (keeps e) c.requires.some)
     c.push_plain.ensures

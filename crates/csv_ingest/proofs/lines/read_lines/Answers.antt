@@ -1,6 +1,6 @@
 use Rattle.std.proofs.Common.{◌≡◌, ◌≤◌, ◌+◌, rules, tests, Bor, List, ℕ, get_or, length, map, refl, subst, sym, arith}
 use Rattle.std.specs.List.{All}
-use Rattle.values.specs.Columns.{Counts, Listed}
+use Rattle.values.specs.Columns.{Counts}
 use Rattle.table_schema.specs.ValidTable.{most_rows}
 use Rattle.csv_ingest.specs.Parts.{ReadsPart}
 use Rattle.csv_ingest.proofs.KeptLines.{all-are-kept, kept-first}

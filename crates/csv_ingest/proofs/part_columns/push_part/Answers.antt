@@ -14,5 +14,5 @@ returns c =
     ok-at c.push_fields.result
     (λ (done : Bool). done ≡ true → AddsPart part layout.fields.now layout.places.items old new)
     (λ (done : Bool). done ≡ true → ReadsPart layout.fields.now (map now layout.names.now) part.text.now old new part.rows (get_or part.places.now part.last 0))
-    (λ done adds e. reads-part part c.requires.part layout c.requires.layout c.requires.width old new c.requires.sorts (adds e) c.requires.some)
+    (λ done adds e. reads-part part c.requires.fits.part layout c.requires.fits.layout c.requires.fits.width old new c.requires.fits.sorts (adds e) c.requires.some)
     c.push_fields.ensures
