@@ -36,7 +36,7 @@ get_take (suc m) (x ∷ xs) zero lt = refl
 get_take (suc m) (x ∷ xs) (suc i) lt = get_take m xs i (omega arith)
 
 -- two numbers are one where neither is less
-neither_less : (a b : ℕ) → (a < b → ⊥) → (b < a → ⊥) → a ≡ b
+pub neither_less : (a b : ℕ) → (a < b → ⊥) → (b < a → ⊥) → a ≡ b
 neither_less a b first second =
     elim (nat_lt a b) as (λ t. nat_lt a b ≡ t → a ≡ b) [
       | true ↦ λ is. absurd (first (ltb-true a b is))

@@ -5,3 +5,6 @@ pub mod Sameness
 pub mod Again
 pub mod ImagesPass
 pub mod FailsOnce
+pub mod OnePart
+pub mod SaidRows
+pub mod ImageOrPart

@@ -36,7 +36,7 @@ use Rattle.segment_head.specs.Heads.{IsHead, Seen, bytes_in, place_in, placed}
 use Rattle.segment_check.specs.Reading.{AreColumns, AreOfFields, HasIdsOf, IsColumn, IsFileHead, IsSomeHead, forward_of, no_column}
 use Rattle.segment_check.specs.declared.head.FileHead.{FileHead}
 
-abbrev no_value : Value
+abbrev pub no_value : Value
 no_value = Whole (pos 0)
 
 -- ---- rows of a table
@@ -51,7 +51,7 @@ fronted_all P Q R join (v ∷ vs) [] ps qs = All-nil R
 fronted_all P Q R join (v ∷ vs) (row ∷ rows) ps qs =
     All-cons R (v ∷ row) (fronted vs rows) (join v row (All-head P v vs ps) (All-head Q row rows qs)) (fronted_all P Q R join vs rows (All-tail P v vs ps) (All-tail Q row rows qs))
 
-rows_fit : (fields : List Field) (columns : List Listed) (count : ℕ) → length columns ≡ length fields → ((k : ℕ) (f : Field) → slice_get fields k ≡ Some f → All (Fits f.kind) (get_or columns k no_column).values)
+pub rows_fit : (fields : List Field) (columns : List Listed) (count : ℕ) → length columns ≡ length fields → ((k : ℕ) (f : Field) → slice_get fields k ≡ Some f → All (Fits f.kind) (get_or columns k no_column).values)
     → All (IsRow fields) (rows_in_columns count columns)
 rows_fit [] [] count wide each = All-replicate (IsRow []) count [] refl
 rows_fit [] (c ∷ cs) count wide each = absurd (omega (arith, wide))
@@ -60,13 +60,13 @@ rows_fit (f ∷ fs) (c ∷ cs) count wide each =
     fronted_all (Fits f.kind) (IsRow fs) (IsRow (f ∷ fs)) (λ v row a b. both_true (fits f.kind v) (is_row fs row) a b) c.values (rows_in_columns count cs) (each 0 f refl)
     (rows_fit fs cs count (omega (arith, wide)) (λ k g e. each (suc k) g e))
 
-rows_unicode : (columns : List Listed) (count : ℕ) → ((k : ℕ) → k < length columns → All IsUnicode (get_or columns k no_column).values) → All (λ row. All IsUnicode row) (rows_in_columns count columns)
+pub rows_unicode : (columns : List Listed) (count : ℕ) → ((k : ℕ) → k < length columns → All IsUnicode (get_or columns k no_column).values) → All (λ row. All IsUnicode row) (rows_in_columns count columns)
 rows_unicode [] count each = All-replicate (λ row. All IsUnicode row) count [] (All-nil IsUnicode)
 rows_unicode (c ∷ cs) count each =
     fronted_all IsUnicode (λ row. All IsUnicode row) (λ row. All IsUnicode row) (λ v row a b. All-cons IsUnicode v row a b) c.values (rows_in_columns count cs) (each 0 (omega arith))
     (rows_unicode cs count (λ k lt. each (suc k) (omega (arith, lt))))
 
-values_all : (P : Value → Type 0) (values : List Value) (ids : List ℕ) → All P values → AreBelow (length values) ids → All P (values_at values ids)
+pub values_all : (P : Value → Type 0) (values : List Value) (ids : List ℕ) → All P values → AreBelow (length values) ids → All P (values_at values ids)
 values_all P values [] ps below = All-nil P
 values_all P values (id ∷ ids) ps below =
     All-cons P (get_or values id no_value) (values_at values ids) (All-get_or P values id no_value (All-head (λ i. i < length values) id ids below) ps)
@@ -80,7 +80,7 @@ pub record OwnDictionary (table : Table) (head : Seen) (column : ℕ) (d : Disti
   pub stands : IsDictionary d
   pub kind_is : d.kind ≡ kind_at table column
 
-zip_many : {B : Type 0} (R : ℕ → B → Type 0) (a n : ℕ) (ys : List B) → AllZip R (range_with_len a n) ys → length ys ≡ n
+pub zip_many : {B : Type 0} (R : ℕ → B → Type 0) (a n : ℕ) (ys : List B) → AllZip R (range_with_len a n) ys → length ys ≡ n
 zip_many R a zero [] all = refl
 zip_many R a zero (y ∷ ys) all = absurd all
 zip_many R a (suc n) [] all = absurd all
@@ -110,10 +110,10 @@ own_dictionary table name file bytes head column is lt =
 
 -- ---- columns that were read are those of rows of the table
 
-field_kind : (table : Table) (k : ℕ) (f : Field) → slice_get table.schema.fields k ≡ Some f → kind_at table k ≡ f.kind
+pub field_kind : (table : Table) (k : ℕ) (f : Field) → slice_get table.schema.fields k ≡ Some f → kind_at table k ≡ f.kind
 field_kind table k f e = ap kind_or e
 
-get_within : (fields : List Field) (k : ℕ) (f : Field) → slice_get fields k ≡ Some f → k < length fields
+pub get_within : (fields : List Field) (k : ℕ) (f : Field) → slice_get fields k ≡ Some f → k < length fields
 get_within [] k f e = absurd cc
 get_within (g ∷ gs) zero f e = omega arith
 get_within (g ∷ gs) (suc k) f e = let rest = get_within gs k f e in omega (arith, rest)

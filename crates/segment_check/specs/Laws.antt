@@ -7,7 +7,7 @@ use Rattle.segment_file.specs.declared.part.Part.{Part}
 use Rattle.segment_file.specs.Image.{CanHold, image}
 use Rattle.segment_file.specs.Names.{IsSegmentName}
 use Rattle.segment_file.specs.Rules.{FailsAt}
-use Rattle.segment_check.specs.Checked.{FailsImageAt, IsNoImage}
+use Rattle.segment_check.specs.Checked.{FailsImageAt, IsImageOf, IsNoImage}
 
 -- no part of the image of rows that a segment may have is wrong
 abbrev pub ImagesPass : Type 0
@@ -22,3 +22,15 @@ FailsOnce =
     (table : Table) (name bytes : List ℕ) (p q : Part)
     → (FailsAt table name bytes p → ¬ FailsImageAt table name bytes q)
     × (FailsImageAt table name bytes p → FailsImageAt table name bytes q → p ≡ q)
+
+-- of a file that is no image one part is wrong, and no more: that of the first rule that fails, or
+-- of the first that is not that of the rows that are spelled
+abbrev pub OnePart : Type 0
+OnePart = (table : Table) (name bytes : List ℕ) (p q : Part) → IsNoImage table name bytes p
+    → IsNoImage table name bytes q → p ≡ q
+
+-- no file is the image of no rows and has no part that is wrong
+abbrev pub ImageOrPart : Type 0
+ImageOrPart = (table : Table) (name bytes : List ℕ) → IsValidTable table → IsSegmentName name
+    → ((rows : List (List Value)) → ¬ IsImageOf table name bytes rows)
+    → ¬ ((part : Part) → ¬ IsNoImage table name bytes part)

@@ -1,6 +1,6 @@
 //! Laws of files that are images, and of those that are none. Each is the contract of a function
 //! that does nothing.
-ghost use Rattle.segment_check.specs.Laws.{FailsOnce, ImagesPass};
+ghost use Rattle.segment_check.specs.Laws.{FailsOnce, ImageOrPart, ImagesPass, OnePart};
 
 /// No part of the image of rows that a segment may have is wrong.
 pub fn images_pass_law()
@@ -10,4 +10,14 @@ pub fn images_pass_law()
 /// Of a file that keeps the rules of heads and is no image one part is wrong, and no more.
 pub fn fails_once_law()
     ensures { FailsOnce }
+{}
+
+/// No file has two parts that are wrong.
+pub fn one_part_law()
+    ensures { OnePart }
+{}
+
+/// A file that is the image of no rows has a part that is wrong.
+pub fn image_or_part_law()
+    ensures { ImageOrPart }
 {}
