@@ -7,7 +7,7 @@ use Rattle.outside.specs.Seen.{OnlyReads, Seen}
 use Rattle.segment_build.specs.declared.fault.CompareFault.{CompareFault}
 use Rattle.segment_build.specs.declared.fault.CompareFault.TheVariants.{Differs, Failed, NoMemory}
 use Rattle.segment_build.specs.Compared.{Compared, Compares, DifferAt, IsCommon}
-use Rattle.segment_build.specs.FileReads.{LogsFile, file_then}
+use Rattle.segment_build.specs.FileReads.{LogsFile, file_then, file_unread}
 
 -- ---- lists
 
@@ -206,4 +206,5 @@ compares_declined a x s = record {
     rose = λ fails. absurd cc;
     unchanged = λ fine. refl;
   };
+  log = file_unread x.file s.log s.log refl;
 }
