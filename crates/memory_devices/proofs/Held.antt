@@ -25,6 +25,9 @@ get_held files q e = get-from_sorted name_order files q (as_T _ e)
 pub keys_held : (files : List (List ℕ × List ℕ)) → is_sorted name_order files ≡ true → map.keys (map.from_sorted {R = name_order} files) ≡ map (λ e. e.0) files
 keys_held files e = ap (map (λ e. e.0)) (entries-from_sorted name_order files (as_T _ e))
 
+pub entries_held : (files : List (List ℕ × List ℕ)) → is_sorted name_order files ≡ true → map.entries (map.from_sorted {R = name_order} files) ≡ files
+entries_held files e = entries-from_sorted name_order files (as_T _ e)
+
 pub sorted_put : (name bytes : List ℕ) (files : List (List ℕ × List ℕ)) → is_sorted name_order files ≡ true → is_sorted name_order (put name_order name bytes files) ≡ true
 sorted_put name bytes files e = as_true _ (is_sorted-put name_order nat_list_cmp_total name bytes files (as_T _ e))
 

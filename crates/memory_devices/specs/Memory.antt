@@ -1,7 +1,7 @@
 -- What a shelf, a depot and a sink in memory are seen as, and what a call of theirs does.
-use Rattle.std.specs.Prelude.{◌-◌, ◌++◌, ◌∷◌, ℕ, Bool, ◌||◌, nat_eq, nat_lt, List, [], length, Some, if◌then◌else◌, refl}
+use Rattle.std.specs.Prelude.{◌-◌, ◌++◌, ◌∷◌, ℕ, Bool, false, ◌||◌, nat_eq, nat_le, nat_lt, List, [], length, Option, Some, None, if◌then◌else◌, refl}
 use Rattle.std.specs.List.{list_any}
-use Rattle.std.specs.Coded.{Coded, code_by, coded×, coded_ℕ, coded_list}
+use Rattle.std.specs.Coded.{Coded, code_by, coded×, coded_ℕ, coded_list, coded_option}
 use Rattle.std.specs.FinMap as map
 use Rattle.outside.specs.Counts.{next}
 use Rattle.outside.specs.Files.{Files, files_of, bytes_of}
@@ -12,13 +12,14 @@ use Rattle.outside.specs.Calls.{Heard, Seen}
 abbrev pub files_code : Coded Files
 files_code = map.code (coded_list coded_ℕ) (coded_list coded_ℕ)
 
--- published files, parts, the reads so far, the numbers of the calls that are to fail, the calls so
--- far, and the faults so far
+-- published files, parts, the reads so far, the numbers of the calls that are to fail, the number
+-- of the call from which on all are to fail, the calls so far, and the faults so far
 pub record Memory : Type 0 where
   pub held : Files
   pub parts : Files
   pub log : List Entry
   pub failing : List ℕ
+  pub stop : Option ℕ
   pub calls : ℕ
   pub read_faults : ℕ
   pub write_faults : ℕ
@@ -42,15 +43,29 @@ entry_code = code_by (List ℕ × (ℕ × ℕ)) (coded× (coded_list coded_ℕ) 
 -- the code of that
 abbrev pub memory_code : Coded Memory
 memory_code =
-    code_by ((Files × Files) × ((List Entry × List ℕ) × (ℕ × (ℕ × ℕ))))
+    code_by ((Files × Files) × ((List Entry × (List ℕ × Option ℕ)) × (ℕ × (ℕ × ℕ))))
     (coded× (coded× files_code files_code) (coded× (coded× (coded_list entry_code)
-    (coded_list coded_ℕ)) (coded× coded_ℕ (coded× coded_ℕ coded_ℕ))))
-    (λ m. ((m.held, m.parts), ((m.log, m.failing), (m.calls, (m.read_faults, m.write_faults)))))
+    (coded× (coded_list coded_ℕ) (coded_option coded_ℕ))) (coded× coded_ℕ (coded× coded_ℕ
+    coded_ℕ))))
+    (λ m. (
+      (m.held, m.parts),
+      (
+        (m.log, (m.failing, m.stop)),
+        (
+          m.calls,
+          (
+            m.read_faults,
+            m.write_faults,
+          ),
+        ),
+      ),
+    ))
     (λ p. record {
       held = p.0.0;
       parts = p.0.1;
       log = p.1.0.0;
-      failing = p.1.0.1;
+      failing = p.1.0.1.0;
+      stop = p.1.0.1.1;
       calls = p.1.1.0;
       read_faults = p.1.1.1.0;
       write_faults = p.1.1.1.1;
@@ -64,18 +79,28 @@ fresh files failing = record {
   parts = map.empty;
   log = [];
   failing = failing;
+  stop = None;
   calls = 0;
   read_faults = 0;
   write_faults = 0;
 }
 
+-- a device of these files that stops: the call of this number is to fail, and each after it
+abbrev pub stopping : List (List ℕ × List ℕ) → ℕ → Memory
+stopping files after = record (fresh files []) { stop = Some after }
+
 -- whether the call of this number is to fail
 abbrev pub is_listed : List ℕ → ℕ → Bool
 is_listed failing call = list_any (λ listed. nat_eq listed call) failing
 
+-- whether a device that stops with a call, if it does, has stopped when this call comes
+abbrev pub has_stopped : Option ℕ → ℕ → Bool
+has_stopped None _ = false
+has_stopped (Some after) call = nat_le after call
+
 -- whether the call that comes now is to fail
 abbrev pub fails : Memory → Bool
-fails memory = is_listed memory.failing memory.calls
+fails memory = is_listed memory.failing memory.calls || has_stopped memory.stop memory.calls
 
 -- a call that reads was made: it is counted, and so is its fault where it is to fail
 abbrev pub read_called : Memory → Memory

@@ -91,6 +91,13 @@ impl FileMap {
         Ok(())
     }
 
+    /// The files with their names, in the order of these.
+    pub(crate) fn entries(&self, alloc: Global) -> Result<Seq<(Name, Bytes)>, NoMemory>
+        ensures { IfOk result (λ files. files ≡ map.entries self.now) }
+    {
+        copy_files(alloc, self.files.as_slice())
+    }
+
     /// The names, in their order.
     pub fn names(&self, alloc: Global) -> Result<Seq<Name>, NoMemory>
         ensures { IfOk result (λ names. names ≡ map.keys self.now) }
@@ -189,4 +196,15 @@ fn copy_names(alloc: Global, files: &[(Name, Bytes)]) -> Result<Seq<Name>, NoMem
         names.push(Name::from_text(alloc, file.0.as_str())?)?;
     }
     Ok(names)
+}
+
+fn copy_files(alloc: Global, files: &[(Name, Bytes)]) -> Result<Seq<(Name, Bytes)>, NoMemory>
+    ensures { IfOk result (λ copies. copies ≡ files.now) }
+{
+    let mut copies = Seq::new(alloc);
+    for file in files {
+        let name = Name::from_text(alloc, file.0.as_str())?;
+        copies.push((name, file.1.copy(alloc)?))?;
+    }
+    Ok(copies)
 }

@@ -1,8 +1,9 @@
 //! Depots in memory.
 ghost use Rattle.std.specs.Prelude.{◌≡◌, Some, OnErr, IfOk, IsErrOf};
+ghost use Rattle.std.specs.FinMap as map;
 ghost use Rattle.outside.specs.Calls.{AppendsToPart, BeginsPart, PublishesPart, RemovesFile};
 ghost use Rattle.memory_devices.specs.Calls.{MemoryBytes, MemoryLength, MemoryNames, MemoryWrite};
-ghost use Rattle.memory_devices.specs.Memory.{fresh, write_called, part_begun, part_grown, part_lost, part_published, file_removed, told};
+ghost use Rattle.memory_devices.specs.Memory.{fresh, stopping, write_called, part_begun, part_grown, part_lost, part_published, file_removed, told};
 
 use crate::{FileMap, MemoryShelf};
 use outside::{Bytes, Depot, DepotFault, Name, NoMemory, ReadResult, Seq, Shelf, ShelfFault};
@@ -43,6 +44,25 @@ impl MemoryDepot {
             parts: FileMap::new(alloc),
             faults: 0,
         })
+    }
+
+    /// A depot of these files that stops: its call of that number, counted from 0 over all its
+    /// calls, fails and is counted, and so is each after it.
+    pub fn stopping(alloc: Global, files: Seq<(Name, Bytes)>, after: u64) -> Result<Self, NoMemory>
+        ensures { IfOk result (λ depot. depot ≡ stopping files after) }
+    {
+        Ok(MemoryDepot {
+            shelf: MemoryShelf::stopping(alloc, files, after)?,
+            parts: FileMap::new(alloc),
+            faults: 0,
+        })
+    }
+
+    /// The published files with their names, in the order of these. It is no call of the device.
+    pub fn files(&self, alloc: Global) -> Result<Seq<(Name, Bytes)>, NoMemory>
+        ensures { IfOk result (λ files. files ≡ map.entries self.now.held) }
+    {
+        self.shelf.files(alloc)
     }
 }
 
@@ -129,7 +149,8 @@ impl Depot for MemoryDepot {
         ensures no_memory { ¬ IsErrOf result DepotFault.NoMemory }
     {
         let _ = alloc;
-        if self.shelf.fails_counted(&mut self.faults) {
+        let has_failed = self.shelf.fails_counted(&mut self.faults);
+        if has_failed {
             return Err(DepotFault::Failed);
         }
         match self.shelf.take(name) {

@@ -3,7 +3,7 @@ ghost use Rattle.std.specs.Prelude.{◌≡◌, Some, OnErr, IfOk, min, length, �
 ghost use Rattle.std.specs.FinMap as map;
 ghost use Rattle.outside.specs.Counts.{next};
 ghost use Rattle.memory_devices.specs.Calls.{CountsFault, MemoryBytes, MemoryLength, MemoryNames};
-ghost use Rattle.memory_devices.specs.Memory.{fresh, fails, file_removed};
+ghost use Rattle.memory_devices.specs.Memory.{fresh, fails, file_removed, stopping};
 
 use crate::file_map::FileMap;
 use crate::memory_calls::MemoryCalls;
@@ -13,12 +13,13 @@ use std::alloc::Global;
 use std::marker::Model;
 
 /// A shelf in memory, which tells everything. It fails at the calls whose numbers it is given,
-/// counted from 0 over all its calls.
+/// counted from 0 over all its calls, or from one of them on.
 #[derive(Drop)]
 pub struct MemoryShelf {
     files: FileMap,
     log: ReadLog,
     calls: MemoryCalls,
+    stop: Option<u64>,
     faults: u64,
 }
 
@@ -35,6 +36,7 @@ impl Model for MemoryShelf {
       parts = map.empty;
       log = s.log;
       failing = s.calls.failing;
+      stop = s.stop;
       calls = s.calls.made;
       read_faults = s.faults;
       write_faults = 0;
@@ -54,8 +56,29 @@ impl MemoryShelf {
             files: FileMap::from_files(alloc, files)?,
             log: ReadLog::new(alloc),
             calls: MemoryCalls::new(failing),
+            stop: None,
             faults: 0,
         })
+    }
+
+    /// A shelf of these files whose call of that number fails, and each after it.
+    pub(crate) fn stopping(
+        alloc: Global,
+        files: Seq<(Name, Bytes)>,
+        after: u64,
+    ) -> Result<Self, NoMemory>
+        ensures { IfOk result (λ shelf. shelf ≡ stopping files after) }
+    {
+        let mut shelf = MemoryShelf::new(alloc, files, Seq::new(alloc))?;
+        shelf.stop = Some(after);
+        Ok(shelf)
+    }
+
+    /// The files with their names.
+    pub(crate) fn files(&self, alloc: Global) -> Result<Seq<(Name, Bytes)>, NoMemory>
+        ensures { IfOk result (λ files. files ≡ map.entries self.now.held) }
+    {
+        self.files.entries(alloc)
     }
 
     /// Counts a call of another kind than those of a shelf, and its fault where it is to fail.
@@ -64,7 +87,7 @@ impl MemoryShelf {
         ensures calls { self.new ≡ record self.old { calls = next self.old.calls } }
         ensures faults { CountsFault result faults.old faults.new }
     {
-        self.calls.fails_counted(faults)
+        self.calls.fails_counted(self.stop, faults)
     }
 
     /// Puts a file under its name, in place of what was there.
@@ -114,7 +137,7 @@ impl Shelf for MemoryShelf {
     fn names(&mut self, alloc: Global) -> Result<Seq<Name>, ShelfFault>
         ensures { MemoryNames result self.old self.new }
     {
-        if self.calls.fails_counted(&mut self.faults) {
+        if self.calls.fails_counted(self.stop, &mut self.faults) {
             return Err(ShelfFault::Failed);
         }
         Ok(self.files.names(alloc)?)
@@ -124,7 +147,7 @@ impl Shelf for MemoryShelf {
         ensures { MemoryLength name.now result self.old self.new }
     {
         let _ = alloc;
-        if self.calls.fails_counted(&mut self.faults) {
+        if self.calls.fails_counted(self.stop, &mut self.faults) {
             return Err(ShelfFault::Failed);
         }
         match self.files.get(name) {
@@ -136,7 +159,7 @@ impl Shelf for MemoryShelf {
     fn read_at(&mut self, alloc: Global, name: &str, offset: u64, into: &mut [u8]) -> ReadResult
         ensures { MemoryBytes name.now offset into.old into.new result self.old self.new }
     {
-        if self.calls.fails_counted(&mut self.faults) {
+        if self.calls.fails_counted(self.stop, &mut self.faults) {
             return Err(ShelfFault::Failed);
         }
         match self.files.get(name) {

@@ -1,4 +1,4 @@
-use Rattle.std.proofs.Common.{◌≡◌, Some, sym, ap, ◌∙◌, rules}
+use Rattle.std.proofs.Common.{Some, sym, ap, ◌∙◌, rules}
 use Rattle.std.specs.FinMap as map
 use Rattle.outside.specs.Files.{Has}
 use Rattle.memory_devices.proofs.memory_shelf.MemoryShelfShelf.read_at.Goals as goal
