@@ -1,9 +1,13 @@
 pub mod LaneSteps
 pub mod WordSteps
 pub mod BitLemmas
+pub mod EightSteps
+pub mod Most
+pub mod NarrowSteps
 pub mod Fields
 pub mod Pushed
 pub mod Ranges
+pub mod RangeSteps
 pub mod ReadSteps
 pub mod Spelling
 pub mod Widths

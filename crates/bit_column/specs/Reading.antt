@@ -1,9 +1,10 @@
 -- What a call reads of a part of a file or of a range of ids, and when it is refused.
-use Rattle.std.specs.Prelude.{◌≡◌, ◌<◌, ℕ, ◌+◌, List, Result, IfOk, IfSome, IsErrOf, OnErr, OnOk}
+use Rattle.std.specs.Prelude.{◌≡◌, ◌<◌, ◌≤◌, ℕ, ◌+◌, ◌-◌, ◌*◌, List, length, Result, IfOk, IfSome, IsErrOf, OnErr, OnOk}
 use Rattle.outside.specs.Files.{EndsBefore}
 use Rattle.outside.specs.Reads.{LogsOn, LogsUpTo}
 use Rattle.outside.specs.Seen.{OnlyReads, Seen}
 use Rattle.outside.specs.declared.place.Place.{Place}
+use Rattle.bit_column.specs.Column.{bytes_for}
 use Rattle.bit_column.specs.Sections.{IsPart, Readable, end_byte, first_byte, section}
 use Rattle.bit_column.specs.declared.fault.ColumnFault.{ColumnFault}
 use Rattle.bit_column.specs.declared.fault.ColumnFault.TheVariants.{BadId, ReadFault}
@@ -31,3 +32,13 @@ pub record ReadsRange {A : Type 0} (result : Result A ColumnFault) (place : Plac
   pub past : place.length < end_byte width from to → from < to → new.log ≡ old.log
   pub bad : IsErrOf result BadId → IfSome old.held (λ files.
       ¬ Readable width count from to (section files place))
+
+-- the bytes that have the ids between two indexes were read, each once, and are these; the section
+-- has them. The ids are bad, whatever their count is to be, just where it has not
+pub record ReadsBytes (result : Result (Unit {0}) ColumnFault) (place : Place) (width from to : ℕ)
+    (bytes : List ℕ) (old new : Seen) : Type 0 where
+  pub within : OnOk result (bytes_for (to * width) ≤ place.length)
+  pub number : OnOk result (length bytes ≡ bytes_for (to * width) - first_byte width from)
+  pub part : OnOk result (IsPart old.held place.file (place.offset + first_byte width from)
+      (place.offset + bytes_for (to * width)) bytes)
+  pub reads : (count : ℕ) → ReadsRange result place width count from to old new

@@ -15,8 +15,28 @@ pub struct Plan {
     pub factors: u32x4,
 }
 
-/// Puts the ids of so many groups of eight, which are followed by enough bytes.
+/// Puts the ids of so many groups of eight, which are followed by enough bytes. Columns whose ids
+/// take more than two bytes each mostly have one of the widths that have code of their own.
+#[inline(never)]
 pub fn put_groups(bytes: &[u8], bit: u32, groups: usize, width: Width, ids: &mut [u32])
+    requires bit { bit < 8 }
+    requires narrow { width.bits ≤ 24 }
+    requires there { 0 < groups → groups * width.bits + 16 ≤ length bytes.now }
+    requires room { 8 * groups ≤ length ids.old }
+    ensures { IsFilled bit width.bits (8 * groups) (bits_of 8 bytes.now) ids.new }
+{
+    match width.bits {
+        17 => put_all(bytes, bit, groups, Width { bits: 17 }, ids),
+        18 => put_all(bytes, bit, groups, Width { bits: 18 }, ids),
+        19 => put_all(bytes, bit, groups, Width { bits: 19 }, ids),
+        20 => put_all(bytes, bit, groups, Width { bits: 20 }, ids),
+        _ => put_all(bytes, bit, groups, width, ids),
+    }
+}
+
+// The same by the code of a width.
+#[inline(always)]
+fn put_all(bytes: &[u8], bit: u32, groups: usize, width: Width, ids: &mut [u32])
     requires bit { bit < 8 }
     requires narrow { width.bits ≤ 24 }
     requires there { 0 < groups → groups * width.bits + 16 ≤ length bytes.now }
@@ -48,9 +68,9 @@ fn put_four(bytes: &[u8], at: usize, width: Width, plan: Plan, ids: &mut [u32], 
     four(bytes, at, width, plan).copy_to_slice(&mut ids[to..]);
 }
 
-// Four ids, the first of which begins where the plan has it after a byte.
+/// Four ids, the first of which begins where the plan has it after a byte.
 #[inline(always)]
-fn four(bytes: &[u8], at: usize, width: Width, plan: Plan) -> u32x4
+pub fn four(bytes: &[u8], at: usize, width: Width, plan: Plan) -> u32x4
     requires there { at + 16 ≤ length bytes.now }
     requires narrow { width.bits ≤ 24 }
     requires plan { IsPlan width.bits plan }
@@ -62,8 +82,9 @@ fn four(bytes: &[u8], at: usize, width: Width, plan: Plan) -> u32x4
     u32x4::from_le_bytes(own) * plan.factors >> u32x4::splat(32 - width.bits)
 }
 
-// The plan for ids the first of which begins at a bit of its byte.
-fn plan_from(bit: u32, width: Width) -> Plan
+/// The plan for ids the first of which begins at a bit of its byte.
+#[inline(always)]
+pub fn plan_from(bit: u32, width: Width) -> Plan
     requires bit { bit < 8 }
     requires narrow { width.bits ≤ 24 }
     ensures plan { IsPlan width.bits result }
@@ -77,6 +98,7 @@ fn plan_from(bit: u32, width: Width) -> Plan
 }
 
 // Where the bytes of the ids from a bit on are, the last byte first.
+#[inline(always)]
 fn positions_from(bit: u32, width: u32) -> u8x16
     requires bit { bit < 8 }
     requires narrow { width ≤ 24 }
@@ -90,6 +112,7 @@ fn positions_from(bit: u32, width: u32) -> u8x16
 }
 
 // What moves the ids from a bit on to the front of their bytes.
+#[inline(always)]
 fn factors_from(bit: u32, width: u32) -> u32x4
     requires bit { bit < 8 }
     requires narrow { width ≤ 24 }

@@ -3,13 +3,17 @@
 #![tactic(auto)]
 
 mod bits;
+mod eights;
 mod fault;
 mod file_part;
 mod id_range;
 mod lanes;
 mod laws;
+mod narrow_lanes;
+mod narrowing;
 mod part;
 mod range;
+mod range_bytes;
 mod reading;
 mod testing;
 mod unpacking;
@@ -20,7 +24,7 @@ mod writing;
 pub use fault::ColumnFault;
 pub use id_range::IdRange;
 pub use laws::{postings_read_back, reads_back, sorted_reads_back, widths_are_least};
-pub use range::{append_range, read_range};
+pub use range::{append_narrow, append_range, read_range};
 pub use reading::at;
 pub use width::{Width, width_for};
 pub use writing::write;

@@ -1,5 +1,5 @@
 //! A range of ids is read from a section of a file.
-ghost use Rattle.std.specs.Prelude.{◌≡◌, ◌≤◌, ◌<◌, ◌+◌, ◌-◌, ◌++◌, ◌∷◌, [], All, Err, IfOk, IfSome, OnOk, length};
+ghost use Rattle.std.specs.Prelude.{◌≡◌, ◌≤◌, ◌<◌, ◌+◌, ◌-◌, ◌*◌, ◌%◌, ◌++◌, ◌∷◌, [], All, Err, IfOk, IfSome, OnOk, length};
 ghost use Rattle.outside.specs.Seen.{seen};
 ghost use Rattle.bit_column.specs.Column.{ids_between};
 ghost use Rattle.bit_column.specs.Reading.{ReadsRange};
@@ -7,7 +7,9 @@ ghost use Rattle.bit_column.specs.Sections.{section, AppendsRange, Readable};
 ghost use Rattle.bit_column.specs.declared.fault.ColumnFault.TheVariants.{BadId, ReadFault};
 
 use crate::file_part::FilePart;
-use crate::part::{read_few, read_part};
+use crate::narrowing::append_narrow_ids;
+use crate::part::read_few;
+use crate::range_bytes::read_bytes;
 use crate::reading::{append_ids, id_of};
 use crate::{ColumnFault, IdRange, Width};
 use outside::{Place, Seq, Shelf};
@@ -127,29 +129,61 @@ fn append_some<S: Shelf>(
     if range.from == range.to {
         return Ok(());
     }
-    let bit = range.from as u64 * range.width.bits as u64;
-    let end = (range.to as u64 * range.width.bits as u64 + 7) / 8;
-    if end > place.length {
-        return Err(ColumnFault::BadId);
-    }
-    let first = bit / 8;
-    buffer.resize((end - first) as usize, 0)?;
-    let name = place.file.as_str();
-    let part = FilePart {
-        name,
-        offset: place.offset,
-        from: first,
-        to: end,
-    };
-    match read_part(alloc, shelf, part, &mut *buffer) {
+    let bit = first_bit(range);
+    let number = (range.to - range.from) as usize;
+    match read_bytes(alloc, shelf, place, range, buffer) {
         Ok(()) => append_ids(
             buffer.as_slice(),
-            (bit % 8) as usize,
+            bit,
             range.width,
             range.count,
-            (range.to - range.from) as usize,
+            number,
             ids,
         ),
         Err(fault) => Err(fault),
     }
+}
+
+/// Appends the ids of a range of a section, in two bytes each. It reads their bytes and no others,
+/// each once, into a buffer that is used again.
+#[inline(never)]
+pub fn append_narrow<S: Shelf>(
+    alloc: Global,
+    shelf: &mut S,
+    place: &Place,
+    range: IdRange,
+    buffer: &mut Vec<u8>,
+    ids: &mut Vec<u16>,
+) -> Result<(), ColumnFault>
+    requires { range.width.bits ≤ 16 }
+    ensures ids { OnOk result (AppendsRange (S.held shelf.old) place.now range.width.bits
+        range.count range.from range.to ids.old.items ids.new.items) }
+    ensures reads { ReadsRange result place.now range.width.bits range.count range.from range.to
+        (seen S.Shelf shelf.old) (seen S.Shelf shelf.new) }
+{
+    if range.from == range.to {
+        return Ok(());
+    }
+    let bit = first_bit(range);
+    let number = (range.to - range.from) as usize;
+    match read_bytes(alloc, shelf, place, range, buffer) {
+        Ok(()) => append_narrow_ids(
+            buffer.as_slice(),
+            bit,
+            range.width,
+            range.count,
+            number,
+            ids,
+        ),
+        Err(fault) => Err(fault),
+    }
+}
+
+// The bit of its first byte with which a range begins.
+#[inline(always)]
+fn first_bit(range: IdRange) -> usize
+    ensures is { result ≡ range.from * range.width.bits % 8 }
+    ensures low { result < 8 }
+{
+    (range.from as u64 * range.width.bits as u64 % 8) as usize
 }

@@ -18,7 +18,7 @@ const MOST_IN_LANE: u32 = 24;
 const LANE_BYTES: usize = 16;
 
 /// Fewer groups of eight than so many take less time one by one than the plans of vectors do.
-const FEW_GROUPS: usize = 8;
+pub const FEW_GROUPS: usize = 8;
 
 /// The ids from a bit on, as many as there is place for, each of which is to be below the count.
 pub fn unpack(
@@ -61,9 +61,9 @@ fn put_ids(bytes: &[u8], bit: u32, width: Width, ids: &mut [u32])
     put_rest(bytes, bit, groups, width, ids);
 }
 
-// How many groups of eight ids there are, the bytes of which are followed by enough others that
-// vectors can be read.
-fn whole_groups(bytes: &[u8], width: Width, ids: usize) -> usize
+/// How many groups of eight ids there are, the bytes of which are followed by enough others that
+/// vectors can be read.
+pub fn whole_groups(bytes: &[u8], width: Width, ids: usize) -> usize
     ensures there { 0 < result → result * width.bits + 16 ≤ length bytes.now }
     ensures ids { 8 * result ≤ ids }
 {

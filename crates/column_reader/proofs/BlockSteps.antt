@@ -11,12 +11,13 @@ use Rattle.outside.specs.Reads.{Entry, LogsOn, LogsUpTo}
 use Rattle.outside.specs.Seen.{OnlyReads, Seen}
 use Rattle.outside.specs.declared.place.Place.{Place}
 use Rattle.outside.proofs.SeenLemmas.{reads_after, reads_none}
-use Rattle.outside.proofs.ReadLemmas.{LogsOn-none, LogsThrough-none, logs-up}
-use Rattle.bit_column.specs.Column.{id_at, ids_between}
+use Rattle.outside.proofs.ReadLemmas.{LogsOn-none, LogsThrough-none}
+use Rattle.bit_column.specs.Column.{IsWidth, id_at, ids_between}
 use Rattle.bit_column.specs.Sections.{AppendsRange, Readable, end_byte, first_byte, section}
 use Rattle.bit_column.proofs.ReadSteps.{LogsOn-append, LogsUpTo-after}
-use Rattle.coded_columns.specs.Ids.{HasRoom}
+use Rattle.coded_columns.specs.Ids.{HasRoom, IsNarrow}
 use Rattle.coded_columns.specs.declared.ids.IdRoom.{IdRoom}
+use Rattle.coded_columns.specs.declared.ids.IdRoom.TheVariants as room
 use Rattle.column_reader.proofs.PickSteps.{ids_of_range, part_readable}
 
 -- ---- ids by their places
@@ -152,34 +153,19 @@ module _ (place : Place) (width count rows at : ℕ) (first now : Seen) (ids : L
   even : at * 8192 ≡ 8 * (at * 1024)
   even = omega arith
 
-  pub blocks_next : (to : ℕ) (next : Seen) (none block new : List ℕ) → none ≡ [] → at < rows / 8192 + 1 → to ≡ min (at * 8192 + 8192) rows → BlocksRead → OnlyReads ⊥ now next
-      → LogsOn place.file (place.offset + first_byte width (at * 8192)) (place.offset + end_byte width (at * 8192) to) now.log next.log → AppendsRange now.held place width count (at * 8192) to none block
-      → new ≡ ids ++ block → BlockStep place width count (min ((at + 1) * 8192) rows) first next new
-  blocks_next to next none block new empty lt is step reads logs appends added =
+  pub blocks_next : (to : ℕ) (next : Seen) (new : List ℕ) → at < rows / 8192 + 1 → to ≡ min (at * 8192 + 8192) rows → BlocksRead → OnlyReads ⊥ now next
+      → LogsOn place.file (place.offset + first_byte width (at * 8192)) (place.offset + end_byte width (at * 8192) to) now.log next.log → AppendsRange now.held place width count (at * 8192) to ids new
+      → BlockStep place width count (min ((at + 1) * 8192) rows) first next new
+  blocks_next to next new lt is step reads logs appends =
       let same : to ≡ min ((at + 1) * 8192) rows = omega (arith, is) in
       subst (λ n. BlockStep place width count n first next new) same
-      (block_next place width count (at * 1024) (at * 8192) to first now next ids new even (omega (arith, is, lt)) (begun lt step) reads logs
-      (record {
-        ids = appends.ids;
-        appended = added ∙ ap (λ (l : List ℕ). ids ++ l) (appends.appended ∙ ap (λ (l : List ℕ). l ++ appends.ids) empty);
-        number = appends.number;
-        below = appends.below;
-        told = appends.told;
-      }))
+      (block_next place width count (at * 1024) (at * 8192) to first now next ids new even (omega (arith, is, lt)) (begun lt step) reads logs appends)
 
   pub blocks_partly : (to : ℕ) (next : Seen) → at < rows / 8192 + 1 → to ≡ min (at * 8192 + 8192) rows → BlocksRead
       → LogsUpTo place.file (place.offset + first_byte width (at * 8192)) (place.offset + end_byte width (at * 8192) to) now.log next.log
       → LogsUpTo place.file (place.offset + first_byte width 0) (place.offset + end_byte width 0 rows) first.log next.log
   blocks_partly to next lt is step logs =
       block_partly place width count rows (at * 1024) (at * 8192) to first now next ids even (omega (arith, is, lt)) (omega (arith, is)) (begun lt step) logs
-
-  -- a block more was read
-  pub blocks_upto : (to : ℕ) (next : Seen) → at < rows / 8192 + 1 → to ≡ min (at * 8192 + 8192) rows → BlocksRead
-      → LogsOn place.file (place.offset + first_byte width (at * 8192)) (place.offset + end_byte width (at * 8192) to) now.log next.log
-      → LogsUpTo place.file (place.offset + first_byte width 0) (place.offset + end_byte width 0 rows) first.log next.log
-  blocks_upto to next lt is step logs =
-      let end : ℕ = place.offset + end_byte width (at * 8192) to in
-      blocks_partly to next lt is step (logs-up place.file (place.offset + first_byte width (at * 8192)) end end now.log next.log next.log (omega arith) logs refl)
 
   pub blocks_bad : (to : ℕ) → at < rows / 8192 + 1 → to ≡ min (at * 8192 + 8192) rows → BlocksRead
       → IfSome now.held (λ files. ¬ Readable width count (at * 8192) to (section files place)) → IfSome first.held (λ files. ¬ Readable width count 0 rows (section files place))
@@ -188,11 +174,13 @@ module _ (place : Place) (width count rows at : ℕ) (first now : Seen) (ids : L
   pub blocks_end : rows / 8192 + 1 ≤ at → BlocksRead → BlockStep place width count rows first now ids
   blocks_end ge step = let all : min (at * 8192) rows ≡ rows = omega (arith, ge) in subst (λ n. BlockStep place width count n first now ids) all step
 
--- each id of a block has room where all ids of the column have
-pub block_fits : (held : Option Files) (place : Place) (width count from to : ℕ) (room : IdRoom) (none block : List ℕ) → none ≡ [] → ((id : ℕ) → id < count → HasRoom room id) → AppendsRange held place width count from to none block → All (HasRoom room) block
-block_fits held place width count from to room none block empty has a =
-    let same : block ≡ a.ids = a.appended ∙ ap (λ (l : List ℕ). l ++ a.ids) empty in
-    λ j d lt. has (get_or block j d) (subst (λ (l : List ℕ). get_or l j d < count) (sym same) (a.below j d (omega (arith, lt, ap length same))))
+-- ids that take two bytes each where all ids of the column do have at most so many bits
+pub narrow_width : (count width : ℕ) (ids : IdRoom) → IsWidth count width → ((id : ℕ) → id < count → HasRoom ids id) → IsNarrow ids → width ≤ 16
+narrow_width count width (room.Narrow ids) (wide, fits, least) has narrow = least 16 (omega arith) (elim (cases_lt 65536 count) [
+  | inl lt ↦ absurd (omega (arith, has 65536 lt))
+  | inr ge ↦ omega (arith, ge)
+])
+narrow_width count width (room.Wide ids) is has narrow = absurd narrow
 
 -- no block was read
 pub blocks_none : (place : Place) (width rows : ℕ) (log : Option (List Entry)) → LogsUpTo place.file (place.offset + first_byte width 0) (place.offset + end_byte width 0 rows) log log

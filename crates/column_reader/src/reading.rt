@@ -1,10 +1,12 @@
 //! The ids of a column, read from a segment's file.
 
-ghost use Rattle.std.specs.Prelude.{◌≡◌, ◌≤◌, ◌<◌, ◌+◌, All, IfErr, IfOk, IfSome, IsErrOf, length, min};
+ghost use Rattle.std.specs.Prelude.{◌≡◌, ◌≤◌, ◌<◌, ◌+◌, All, IfErr, IfOk, IfSome, IsErrOf, OnOk, length, min};
 ghost use Rattle.outside.specs.Reads.{LogsOn, LogsUpTo};
 ghost use Rattle.outside.specs.Seen.{seen};
 ghost use Rattle.bit_column.specs.Column.{ids_between, width_of};
-ghost use Rattle.bit_column.specs.Sections.{Readable, end_byte, first_byte, section};
+ghost use Rattle.bit_column.specs.Reading.{ReadsRange};
+ghost use Rattle.bit_column.specs.Sections.{AppendsRange, Readable, end_byte, first_byte, section};
+ghost use Rattle.coded_columns.specs.Ids.{IsNarrow, ids_in};
 ghost use Rattle.segment_file.specs.declared.part.Part.TheVariants.{Forward};
 ghost use Rattle.column_reader.specs.Calls.{ReadsSections};
 ghost use Rattle.column_reader.specs.Faults.{IsFaultOf};
@@ -12,7 +14,7 @@ ghost use Rattle.column_reader.specs.Forward.{AreIdsOf, HasIds, IsReadable, Logs
 ghost use Rattle.segment_head.specs.declared.fault.EngineFault.TheVariants.{NotASegment};
 
 use crate::fault::of_column;
-use bit_column::{IdRange, Width, append_range, width_for};
+use bit_column::{ColumnFault, IdRange, Width, append_narrow, append_range, width_for};
 use coded_columns::{IdRoom, Ids};
 use outside::{Place, Shelf};
 use segment_file::Part;
@@ -20,7 +22,7 @@ use segment_head::{EngineFault, Head};
 use std::alloc::Global;
 
 /// Ids are read in blocks of so many, which are whole bytes in any width: beside the ids of a
-/// column there are the bytes of one block, and its ids in four bytes each.
+/// column there are the bytes of one block.
 const BLOCK: u32 = 8192;
 
 /// The ids of the rows in a column of a segment: its forward section is read, each byte once, and
@@ -75,25 +77,44 @@ fn read_ids<S: Shelf>(
 {
     let width = width_for(count);
     let mut buffer = Vec::new(alloc);
-    let mut block = Vec::new(alloc);
     let mut room = IdRoom::for_values(alloc, count, rows as usize)?;
     for at in 0..rows / BLOCK + 1 {
         let from = at * BLOCK;
         let to = block_end(from, rows);
-        block.clear();
         let range = IdRange {
             width: Width { bits: width },
             count,
             from,
             to,
         };
-        match append_range(alloc, shelf, place, range, &mut buffer, &mut block) {
+        match append_block(alloc, shelf, place, range, &mut buffer, &mut room) {
             Ok(()) => {}
             Err(fault) => return Err(of_column(fault, column)),
         }
-        room.append(&block)?;
     }
     Ok(room.into_ids())
+}
+
+// Adds the ids of a block to those before it, each in as many bytes as the room has for one.
+fn append_block<S: Shelf>(
+    alloc: Global,
+    shelf: &mut S,
+    place: &Place,
+    range: IdRange,
+    buffer: &mut Vec<u8>,
+    room: &mut IdRoom,
+) -> Result<(), ColumnFault>
+    requires narrow { IsNarrow room.old → range.width.bits ≤ 16 }
+    ensures ids { OnOk result (AppendsRange (S.held shelf.old) place.now range.width.bits
+        range.count range.from range.to (ids_in room.old) (ids_in room.new)) }
+    ensures reads { ReadsRange result place.now range.width.bits range.count range.from range.to
+        (seen S.Shelf shelf.old) (seen S.Shelf shelf.new) }
+    ensures narrow { IsNarrow room.new → IsNarrow room.old }
+{
+    match room {
+        IdRoom::Narrow(ids) => append_narrow(alloc, shelf, place, range, buffer, ids),
+        IdRoom::Wide(ids) => append_range(alloc, shelf, place, range, buffer, ids),
+    }
 }
 
 // The end of the block of ids that begins with one of so many.

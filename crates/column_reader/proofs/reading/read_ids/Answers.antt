@@ -6,8 +6,8 @@ use Rattle.bit_column.specs.Column.{ids_between, width_of}
 use Rattle.bit_column.specs.Sections.{Readable, end_byte, first_byte, section}
 use Rattle.bit_column.specs.declared.fault.ColumnFault.{ColumnFault}
 use Rattle.bit_column.specs.declared.fault.ColumnFault.TheVariants as columns
-use Rattle.coded_columns.specs.Ids.{HasRoom, ids_in}
-use Rattle.column_reader.proofs.BlockSteps.{block_fits, blocks_bad, blocks_end, blocks_next, blocks_none, blocks_partly, blocks_start, blocks_upto}
+use Rattle.coded_columns.specs.Ids.{ids_in}
+use Rattle.column_reader.proofs.BlockSteps.{blocks_bad, blocks_end, blocks_next, blocks_none, blocks_partly, blocks_start, narrow_width}
 use Rattle.column_reader.proofs.FaultLemmas.{column_bad}
 use Rattle.outside.proofs.SeenLemmas.{reads_well, err_is}
 use Rattle.column_reader.proofs.reading.read_ids.Goals as goal
@@ -38,45 +38,26 @@ returns-in-Err-clause-reads g c = record {
   log_of_fault =
       let place : Place = c.args.place.now in
       let first : Seen = seen g.S.Shelf c.args.shelf.now in
-      let next : Seen = seen g.S.Shelf c.append_range.new.shelf in
+      let next : Seen = seen g.S.Shelf c.append_block.new.shelf in
       subst (λ w. LogsUpTo place.file (place.offset + first_byte w 0) (place.offset + end_byte w 0 c.args.rows) first.log next.log) c.width_for-width.ensures.width
       (blocks_partly place c.width_for-width.result c.args.count c.args.rows c.loop-at.at first (seen g.S.Shelf c.loop-at.shelf) (ids_in c.loop-at.room) c.block_end-to.result next c.loop-at-test.true c.block_end-to.ensures c.loop-at.invariant.step
       c.in-Err.ensures.reads.log_of_fault);
 }
 
-pub returns-in_err-append-clause-reads : goal.returns-in_err-append-clause-reads
-returns-in_err-append-clause-reads g c = record {
-  only_reads = search rules;
-  log = search rules;
-  log_of_fault =
-      let place : Place = c.args.place.now in
-      let first : Seen = seen g.S.Shelf c.args.shelf.now in
-      let next : Seen = seen g.S.Shelf c.append_range.new.shelf in
-      err_is c.from_residual-in_err-append.result (LogsUpTo place.file (place.offset + first_byte (width_of c.args.count) 0) (place.offset + end_byte (width_of c.args.count) 0 c.args.rows) first.log next.log)
-      (subst (λ w. LogsUpTo place.file (place.offset + first_byte w 0) (place.offset + end_byte w 0 c.args.rows) first.log next.log) c.width_for-width.ensures.width
-      (blocks_upto place c.width_for-width.result c.args.count c.args.rows c.loop-at.at first (seen g.S.Shelf c.loop-at.shelf) (ids_in c.loop-at.room) c.block_end-to.result next c.loop-at-test.true c.block_end-to.ensures c.loop-at.invariant.step
-      c.in-Ok.ensures.reads.log));
-}
-
 pub loop-at-init : goal.loop-at-init
 loop-at-init g c = record {
   step = blocks_start c.args.place.now c.width_for-width.result c.args.count c.args.rows 0 (seen g.S.Shelf c.args.shelf.now) (ids_in c.in_ok-room.room) refl c.in_ok-room.ensures.none;
-  has = c.in_ok-room.ensures.room;
+  narrow = narrow_width c.args.count c.width_for-width.result c.in_ok-room.room c.width_for-width.ensures.least c.in_ok-room.ensures.room;
 }
-
-pub append-requires : goal.append-requires
-append-requires g c =
-    subst (All (HasRoom c.loop-at.room)) (sym c.deref.ensures.value)
-    (block_fits (seen g.S.Shelf c.loop-at.shelf).held c.args.place.now c.width_for-width.result c.args.count (c.loop-at.at * 8192) c.block_end-to.result c.loop-at.room c.clear.new.self.items c.append_range.new.ids.items c.clear.ensures.items c.loop-at.invariant.has c.in-Ok.ensures.ids)
 
 pub loop-at-preserved : goal.loop-at-preserved
 loop-at-preserved g c =
     let now : Seen = seen g.S.Shelf c.loop-at.shelf in
-    let next : Seen = seen g.S.Shelf c.append_range.new.shelf in
+    let next : Seen = seen g.S.Shelf c.append_block.new.shelf in
     record {
-      step = blocks_next c.args.place.now c.width_for-width.result c.args.count c.args.rows c.loop-at.at (seen g.S.Shelf c.args.shelf.now) now (ids_in c.loop-at.room) c.block_end-to.result next c.clear.new.self.items c.append_range.new.ids.items (ids_in c.append.new.self)
-          c.clear.ensures.items c.loop-at-test.true c.block_end-to.ensures c.loop-at.invariant.step (reads_well (Unit {0}) ColumnFault c.in-Ok.field-0 columns.ReadFault now next c.in-Ok.ensures.reads.only_reads) c.in-Ok.ensures.reads.log c.in-Ok.ensures.ids (c.in_ok-append.ensures.ids ∙ ap (λ (l : List ℕ). ids_in c.loop-at.room ++ l) c.deref.ensures.value);
-      has = λ id lt. c.append.ensures.room id (c.loop-at.invariant.has id lt);
+      step = blocks_next c.args.place.now c.width_for-width.result c.args.count c.args.rows c.loop-at.at (seen g.S.Shelf c.args.shelf.now) now (ids_in c.loop-at.room) c.block_end-to.result next (ids_in c.append_block.new.room)
+          c.loop-at-test.true c.block_end-to.ensures c.loop-at.invariant.step (reads_well (Unit {0}) ColumnFault c.in-Ok.field-0 columns.ReadFault now next c.in-Ok.ensures.reads.only_reads) c.in-Ok.ensures.reads.log c.in-Ok.ensures.ids;
+      narrow = λ narrow. c.loop-at.invariant.narrow (c.append_block.ensures.narrow narrow);
     }
 
 pub returns-clause-ids : goal.returns-clause-ids

@@ -1,11 +1,11 @@
-use Rattle.std.proofs.Common.{ℕ, ◌*◌, ◌<◌, min}
+use Rattle.std.proofs.Common.{◌*◌, ◌≤◌, min}
 use Rattle.outside.specs.Seen.{seen}
-use Rattle.coded_columns.specs.Ids.{HasRoom, ids_in}
+use Rattle.coded_columns.specs.Ids.{IsNarrow, ids_in}
 use Rattle.column_reader.proofs.BlockSteps.{BlockStep}
 use Rattle.column_reader.proofs.reading.read_ids.Given as goal
 
 abbrev pub invariant-loop-at : goal.invariant-loop-at
 invariant-loop-at g l = record {
   step : BlockStep l.place l.width l.count (min (l.at * 8192) l.rows) (seen g.S.Shelf l.fn.shelf) (seen g.S.Shelf l.shelf) (ids_in l.room);
-  has : (id : ℕ) → id < l.count → HasRoom l.room id;
+  narrow : IsNarrow l.room → l.width ≤ 16;
 }
