@@ -1,10 +1,12 @@
 pub mod Bytes
 pub mod CodedLemmas
 pub mod KeyLemmas
+pub mod ListedLemmas
 pub mod Numbers
 pub mod Progress
 pub mod RankLemmas
 pub mod RankedValues
+pub mod SortLemmas
 pub mod Spells
 pub mod Texts
 pub mod Written

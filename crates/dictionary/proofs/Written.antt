@@ -72,7 +72,7 @@ pub record Began (values : List Value) (i start : ℕ) (old out : List ℕ) : Ty
   pub size : start ≡ length (texts (take i values))
   pub at_most : start ≤ 512 * i
 
-text_few : (v : Value) → fits kind.Text v ≡ true → length (text_bytes v) ≤ 512
+pub text_few : (v : Value) → fits kind.Text v ≡ true → length (text_bytes v) ≤ 512
 text_few (value.Whole z) fit = absurd (false≢true fit)
 text_few (value.Text t) fit = leb-true (length t) 512 fit
 

@@ -1,14 +1,16 @@
 //! Bytes read as a dictionary.
 
-ghost use Rattle.std.specs.Prelude.{◌≡◌, ◌≢◌, ◌<◌, ◌≤◌, ◌*◌, ◌^◌, ◌++◌, ◌∷◌, [], List, ℕ, length, IfOk, IfErr, OnOk, MatchOption};
+ghost use Rattle.std.specs.Prelude.{◌≡◌, ◌≢◌, ◌<◌, ◌≤◌, ◌*◌, ◌^◌, ◌++◌, ◌∷◌, [], List, ℕ, length, map, IfOk, IfErr, OnOk, MatchOption};
+ghost use Rattle.values.specs.declared.value.Value.TheVariants as value;
 ghost use Rattle.value_ids.specs.Dictionary.{Distinct, IsDictionary, most_values};
 ghost use Rattle.dictionary.specs.Spelling.{spelling, counted};
 ghost use Rattle.dictionary.specs.Reading.{IsBody, NoBody, is_above_last, Left, IsNext, NoNext};
 
 use crate::{DictFault, Dictionary, MOST_VALUES, is_in_range, number_of};
-use data_types::{FieldKind, Name};
+use data_types::{FieldKind, TextPool};
 use std::alloc::Global;
-use values::{MOST_TEXT_BYTES, Value};
+use value_ids::{ValueList, bytes_at};
+use values::MOST_TEXT_BYTES;
 
 impl Dictionary {
     /// The dictionary of that kind whose spelling the bytes are.
@@ -37,15 +39,21 @@ fn read_body(
     kind: FieldKind,
     count: usize,
     body: &[u8],
-) -> Result<Vec<Value>, DictFault>
+) -> Result<ValueList, DictFault>
     requires { count ≤ most_values }
-    ensures ok { IfOk result (λ values. IsBody kind count body.now values.items) }
+    ensures ok { IfOk result (λ values. IsBody kind count body.now values) }
     ensures bad { IfErr result (λ fault. fault ≡ DictFault.BadDictionary →
         NoBody kind count body.now) }
 {
     match kind {
-        FieldKind::Int | FieldKind::Long => read_numbers(alloc, kind, count, body),
-        FieldKind::Text => read_texts(alloc, count, body),
+        FieldKind::Int | FieldKind::Long => match read_numbers(alloc, kind, count, body) {
+            Ok(numbers) => Ok(ValueList::of_numbers(numbers)),
+            Err(fault) => Err(fault),
+        },
+        FieldKind::Text => match read_texts(alloc, count, body) {
+            Ok(texts) => Ok(ValueList::of_texts(texts)),
+            Err(fault) => Err(fault),
+        },
     }
 }
 
@@ -64,44 +72,47 @@ fn read_numbers(
     kind: FieldKind,
     count: usize,
     body: &[u8],
-) -> Result<Vec<Value>, DictFault>
+) -> Result<Vec<i64>, DictFault>
     requires at_most { count ≤ most_values }
     requires numbers { kind ≢ FieldKind.Text }
-    ensures ok { IfOk result (λ values. IsBody kind count body.now values.items) }
+    ensures ok { IfOk result (λ numbers.
+        IsBody kind count body.now (map value.Whole numbers.items)) }
     ensures bad { IfErr result (λ fault. fault ≡ DictFault.BadDictionary →
         NoBody kind count body.now) }
 {
     if body.len() != 8 * count {
         return Err(DictFault::BadDictionary);
     }
-    let mut values = Vec::with_capacity(alloc, count)?;
+    let mut numbers = Vec::with_capacity(alloc, count)?;
     let mut rest = body;
     while let Some((chunk, following)) = rest.split_first_chunk::<8>() {
         let number = number_of(chunk);
-        let value = Value::Whole(number);
-        if !is_in_range(kind, number) || !is_above_last(&values, &value) {
+        if !is_in_range(kind, number) || !is_greater(&numbers, number) {
             return Err(DictFault::BadDictionary);
         }
-        keep(&mut values, value)?;
+        keep(&mut numbers, number)?;
         rest = following;
     }
-    Ok(values)
+    Ok(numbers)
 }
 
-fn is_above_last(values: &[Value], value: &Value) -> bool
-    ensures { result ≡ is_above_last values.now value.now }
+// Whether a number is greater than the last one, if there is one.
+#[inline(always)]
+fn is_greater(numbers: &[i64], number: i64) -> bool
+    ensures { result ≡ is_above_last (map value.Whole numbers.now) (value.Whole number) }
 {
-    match values.last() {
+    match numbers.last() {
         None => true,
-        Some(last) => last < value,
+        Some(last) => *last < number,
     }
 }
 
-fn keep(values: &mut Vec<Value>, value: Value) -> Result<(), DictFault>
-    ensures ok { OnOk result (values.new.items ≡ values.old.items ++ value ∷ []) }
+#[inline(always)]
+fn keep(numbers: &mut Vec<i64>, number: i64) -> Result<(), DictFault>
+    ensures ok { OnOk result (numbers.new.items ≡ numbers.old.items ++ number ∷ []) }
     ensures err { IfErr result (λ fault. fault ≡ DictFault.NoMemory) }
 {
-    match values.push(value) {
+    match numbers.push(number) {
         Ok(()) => Ok(()),
         Err(_) => Err(DictFault::NoMemory),
     }
@@ -115,31 +126,54 @@ struct Unread<'a> {
     texts: &'a [u8],
 }
 
-fn read_texts(alloc: Global, count: usize, body: &[u8]) -> Result<Vec<Value>, DictFault>
+fn read_texts(alloc: Global, count: usize, body: &[u8]) -> Result<TextPool, DictFault>
     requires { count ≤ most_values }
-    ensures ok { IfOk result (λ values. IsBody FieldKind.Text count body.now values.items) }
+    ensures ok { IfOk result (λ texts.
+        IsBody FieldKind.Text count body.now (map value.Text texts)) }
     ensures bad { IfErr result (λ fault. fault ≡ DictFault.BadDictionary →
         NoBody FieldKind.Text count body.now) }
 {
     let Some(mut ahead) = texts_ahead(count, body) else {
         return Err(DictFault::BadDictionary);
     };
-    let mut values = Vec::with_capacity(alloc, count)?;
+    let mut texts = TextPool::new(alloc);
     for _ in 0..count {
         let Some((text, following)) = next_text(ahead) else {
             return Err(DictFault::BadDictionary);
         };
-        let value = Value::Text(Name::from_text(alloc, text)?);
-        if !is_above_last(&values, &value) {
+        if !is_after(&texts, text) {
             return Err(DictFault::BadDictionary);
         }
-        keep(&mut values, value)?;
+        keep_text(&mut texts, text)?;
         ahead = following;
     }
     if !ahead.texts.is_empty() {
         return Err(DictFault::BadDictionary);
     }
-    Ok(values)
+    Ok(texts)
+}
+
+// Whether a text is greater than the last one, if there is one.
+#[inline(always)]
+fn is_after(texts: &TextPool, text: &str) -> bool
+    ensures { result ≡ is_above_last (map value.Text texts.now) (value.Text text.now) }
+{
+    let count = texts.len();
+    if count == 0 {
+        return true;
+    }
+    bytes_at(texts, count - 1).cmp(text.as_bytes()).is_lt()
+}
+
+#[inline(always)]
+fn keep_text(texts: &mut TextPool, text: &str) -> Result<(), DictFault>
+    ensures ok { OnOk result (texts.new ≡ texts.old ++ text.now ∷ []) }
+    ensures err { IfErr result (λ fault. fault ≡ DictFault.NoMemory) }
+{
+    match texts.push(text) {
+        Ok(()) => Ok(()),
+        Err(_) => Err(DictFault::NoMemory),
+    }
 }
 
 fn texts_ahead(count: usize, body: &[u8]) -> Option<Unread<'_>>

@@ -1,28 +1,32 @@
 //! A dictionary, made of a column, and its look-ups.
 
-ghost use Rattle.std.specs.Prelude.{◌≡◌, ◌<◌, ◌≤◌, ℕ, false, length, slice_get, Some, IfOk, MatchOption};
+ghost use Rattle.std.specs.Prelude.{◌≡◌, ◌<◌, ◌≤◌, ℕ, false, length, map, slice_get, Some, IfOk, MatchOption};
 ghost use Rattle.std.specs.List.{All};
+ghost use Rattle.values.specs.declared.value.Value.TheVariants as value;
 ghost use Rattle.values.specs.Tests.{is_member};
 ghost use Rattle.value_ids.specs.Coding.{Codes};
 ghost use Rattle.value_ids.specs.Dictionary.{Fits, Distinct, IsDictionary, distinct, most_values};
 ghost use Rattle.value_ids.specs.Ids.{has_id, matching, satisfies};
+ghost use Rattle.value_ids.specs.Lists.{AreNumbers, AreTexts};
 
 use crate::coded::{Coded, code_column};
+use crate::listing::column_of;
 use crate::matching::matching_ids;
-use data_types::{FieldKind, Seq};
+use data_types::{FieldKind, Seq, TextPool};
 use std::alloc::Global;
 use std::marker::Model;
-use value_ids::{AscendingValues, IdSet, distinct_values};
+use value_ids::{AscendingValues, Cut, IdSet, ValueList, cut_at};
 use values::{Column, NoMemory, Test, Value};
 
 /// The most values that a column has.
 pub const MOST_VALUES: usize = 1_048_576;
 
 /// The distinct values of a column in ascending order. The id of a value is its place, from 0.
-#[derive(Debug, Drop)]
+/// Numbers are one list, and texts one block of bytes.
+#[derive(Drop)]
 pub struct Dictionary {
     pub(crate) kind: FieldKind,
-    pub(crate) values: Vec<Value>,
+    pub(crate) values: ValueList,
 }
 
 impl Model for Dictionary {
@@ -30,13 +34,13 @@ impl Model for Dictionary {
 
     ghost Value = { Distinct };
 
-    ghost view = { λ d. record { kind = d.kind; values = d.values.items } };
+    ghost view = { λ d. record { kind = d.kind; values = d.values } };
 
-    ghost invariant = { λ d. IsDictionary (record { kind = d.kind; values = d.values.items }) };
+    ghost invariant = { λ d. IsDictionary (record { kind = d.kind; values = d.values }) };
 }
 
 impl Dictionary {
-    /// The dictionary of a column of that kind. Texts are shared with the column.
+    /// The dictionary of a column of that kind.
     pub fn build(
         alloc: Global,
         kind: FieldKind,
@@ -50,7 +54,8 @@ impl Dictionary {
             is_member d.values value ≡ is_member column.now value) }
         ensures valid { IfOk result IsDictionary }
     {
-        let values = distinct_values(alloc, column.as_slice())?;
+        let column = column_of(alloc, kind, column.as_slice())?;
+        let Coded { values, ids: _ } = code_column(alloc, &column)?;
         Ok(Dictionary { kind, values })
     }
 
@@ -92,18 +97,43 @@ impl Dictionary {
             (is_member self.now.values value.now ≡ false)
             (λ id. slice_get self.now.values id ≡ Some value.now) }
     {
-        match self.values.binary_search(value) {
-            Ok(id) => Some(id as u32),
-            Err(_) => None,
-        }
+        let Cut { from, to } = cut_at(self.ascending(), value);
+        if from < to { Some(from) } else { None }
     }
 
-    /// The value of an id.
-    pub fn value_at(&self, id: u32) -> &Value
+    /// The value of an id. A text is copied.
+    pub fn value_at(&self, alloc: Global, id: u32) -> Result<Value, NoMemory>
         requires { id < length self.now.values }
-        ensures { slice_get self.now.values id ≡ Some result.now }
+        ensures { IfOk result (λ value. slice_get self.now.values id ≡ Some value) }
     {
-        &self.values[id as usize]
+        self.values.value(alloc, id as usize)
+    }
+
+    /// The numbers by their ids, if the values are no texts.
+    pub fn numbers(&self) -> Option<&[i64]>
+        ensures { MatchOption result
+            (AreTexts self.now.values)
+            (λ numbers. self.now.values ≡ map value.Whole numbers.now) }
+    {
+        self.values.as_numbers()
+    }
+
+    /// The texts by their ids, if the values are no numbers.
+    pub fn texts(&self) -> Option<&TextPool>
+        ensures { MatchOption result
+            (AreNumbers self.now.values)
+            (λ texts. self.now.values ≡ map value.Text texts.now) }
+    {
+        self.values.as_texts()
+    }
+
+    // The values, which ascend.
+    fn ascending(&self) -> AscendingValues<'_>
+        ensures { result.values.now ≡ self.now.values }
+    {
+        AscendingValues {
+            values: &self.values,
+        }
     }
 
     /// The ids of the values that satisfy the test. A bound is looked up, and no value is tested.
@@ -112,10 +142,7 @@ impl Dictionary {
         ensures each { IfOk result (λ ids. (id : ℕ) →
             has_id ids id ≡ satisfies test.now (slice_get self.now.values id)) }
     {
-        let ascending = AscendingValues {
-            values: &self.values,
-        };
-        let ids = matching_ids(alloc, test, ascending)?;
+        let ids = matching_ids(alloc, test, self.ascending())?;
         let _list = ids.as_slice();
         Ok(ids)
     }

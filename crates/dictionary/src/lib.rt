@@ -7,6 +7,7 @@ mod dictionary;
 mod fault;
 mod keyed;
 mod laws;
+mod listing;
 mod matching;
 mod number_index;
 mod number_range;

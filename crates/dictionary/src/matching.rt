@@ -19,19 +19,19 @@ pub fn matching_ids(
 ) -> Result<IdSet, NoMemory>
     ensures { IfOk result (Picks (λ value. holds value test.now) ascending.entry.values.now) }
 {
+    let count = ascending.values.len() as u32;
     match test {
         Test::Compare(op, bound) => compared(alloc, *op, bound, ascending),
         Test::OneOf(members, negated) => one_of(alloc, members.as_slice(), *negated, ascending),
         Test::Between(low, high, negated) => between(alloc, low, high, *negated, ascending),
         Test::All(tests) => {
-            let mut ids = range_of(alloc, 0, ascending.values.len() as u32)?;
+            let mut ids = range_of(alloc, 0, count)?;
             for test in tests.as_slice() {
                 ids = intersection_of(alloc, &ids, &matching_ids(alloc, test, ascending)?)?;
             }
             Ok(ids)
         }
         Test::Any(tests) => {
-            let count = ascending.values.len() as u32;
             let mut ids = IdSet::new(alloc);
             for test in tests.as_slice() {
                 ids = union_of(alloc, count, &ids, &matching_ids(alloc, test, ascending)?)?;

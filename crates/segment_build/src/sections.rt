@@ -94,7 +94,7 @@ impl Sections {
     {
         let count = dictionary.count();
         let coded = CodedIds { ids, count };
-        push_ends(dictionary, &mut self.bounds)?;
+        push_ends(alloc, dictionary, &mut self.bounds)?;
         self.dictionaries
             .push(dictionary_section(alloc, dictionary)?)?;
         self.forwards.push(forward_section(alloc, coded)?)?;

@@ -6,6 +6,7 @@ ghost use Rattle.segment_file.specs.Bounds.{IsShort, bound_bytes, bounds_bytes, 
 use crate::NoMemory;
 use crate::numbers::push_two;
 use dictionary::Dictionary;
+use std::alloc::Global;
 use values::Value;
 
 /// The least and the greatest value of a column.
@@ -16,7 +17,7 @@ pub struct Ends {
 }
 
 /// Appends the least and the greatest value of one column, if it has values.
-pub fn push_ends(dictionary: &Dictionary, out: &mut Vec<u8>) -> Result<(), NoMemory>
+pub fn push_ends(alloc: Global, dictionary: &Dictionary, out: &mut Vec<u8>) -> Result<(), NoMemory>
     ensures { OnOk result
         (out.new.items ≡ out.old.items ++ bounds_bytes (ends_of dictionary.now.values)) }
 {
@@ -24,8 +25,10 @@ pub fn push_ends(dictionary: &Dictionary, out: &mut Vec<u8>) -> Result<(), NoMem
     if count == 0 {
         return Ok(());
     }
-    push_bound(dictionary.value_at(0), out)?;
-    push_bound(dictionary.value_at(count - 1), out)
+    let least = dictionary.value_at(alloc, 0)?;
+    push_bound(&least, out)?;
+    let greatest = dictionary.value_at(alloc, count - 1)?;
+    push_bound(&greatest, out)
 }
 
 #[tactic(auto, unfolding(dictionary::specs::Spelling::number_bytes))]

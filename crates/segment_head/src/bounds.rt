@@ -12,12 +12,16 @@ use table_schema::Field;
 use values::{MOST_TEXT_BYTES, Value};
 
 /// Appends the bounds of columns with these dictionaries; a column without values has none.
-pub(crate) fn push_bounds(dictionaries: &[Dictionary], out: &mut Vec<u8>) -> Result<(), NoMemory>
+pub(crate) fn push_bounds(
+    alloc: Global,
+    dictionaries: &[Dictionary],
+    out: &mut Vec<u8>,
+) -> Result<(), NoMemory>
     ensures { OnOk result (out.new.items ≡
         out.old.items ++ bounds_bytes (bounds_of dictionaries.now)) }
 {
     for dictionary in dictionaries {
-        push_ends(dictionary, out)?;
+        push_ends(alloc, dictionary, out)?;
     }
     Ok(())
 }

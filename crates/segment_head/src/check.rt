@@ -142,7 +142,7 @@ fn has_bounds(alloc: Global, dictionaries: &[Dictionary], bytes: &[u8]) -> Resul
         (bytes.now ≢ bounds_bytes (bounds_of dictionaries.now))) }
 {
     let mut written = Vec::new(alloc);
-    push_bounds(dictionaries, &mut written)?;
+    push_bounds(alloc, dictionaries, &mut written)?;
     Ok(written.as_slice() == bytes)
 }
 
@@ -165,8 +165,8 @@ fn keep_ends(alloc: Global, dictionary: &Dictionary, bounds: &mut Vec<Ends>) -> 
     if count == 0 {
         return Ok(());
     }
-    let least = dictionary.value_at(0).copy(alloc)?;
-    let greatest = dictionary.value_at(count - 1).copy(alloc)?;
+    let least = dictionary.value_at(alloc, 0)?;
+    let greatest = dictionary.value_at(alloc, count - 1)?;
     bounds.push(Ends { least, greatest })?;
     Ok(())
 }

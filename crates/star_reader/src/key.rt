@@ -26,7 +26,7 @@ pub fn key_at(
     let mut key = Seq::with_capacity(alloc, columns.len())?;
     for i in 0..columns.len() {
         let id = selected.dim(at, i as u8);
-        key.push(columns[i].values.value_at(id).copy(alloc)?)?;
+        key.push(columns[i].values.value_at(alloc, id)?)?;
     }
     Ok(key)
 }

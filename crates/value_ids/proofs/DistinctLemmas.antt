@@ -1,18 +1,12 @@
 -- The distinct values of a column: they ascend, have the members of the column, and are the only such list.
-use Rattle.indexmap.specs.IndexSet.{insert_key}
-use Rattle.std.proofs.Common.{◌≡◌, ◌∙◌, ◌<◌, ◌≤◌, ◌+◌, ℕ, Bool, true, false, ◌||◌, cond, List, [], ◌∷◌, ◌++◌, length, take, get_or, refl, sym, ap, subst, arith}
+use Rattle.std.proofs.Common.{◌≡◌, ◌∙◌, ◌≤◌, ◌+◌, Bool, true, false, ◌||◌, List, [], ◌∷◌, length, refl, sym, ap, subst, arith}
 use Rattle.std.proofs.lemmas.Bool.{false≢true}
-use Rattle.std.proofs.lemmas.Map.Keys.{sorted_head, sorted_tail, apart_from_distinct, sorted_from_all_adjacent}
-use Rattle.std.proofs.lemmas.List.{length-append}
-use Rattle.std.proofs.lemmas.List.Elements.{All-contains, All-push}
-use Rattle.std.proofs.lemmas.List.Folds.{list_any-append, list_any_more}
-use Rattle.std.proofs.lemmas.List.Sorted.{list_any-IsPermutation}
-use Rattle.std.proofs.lemmas.Map.Keys.{IsDistinct-IsPermutation}
-use Rattle.std.proofs.lemmas.Map.Steps.{list_any_congr}
+use Rattle.std.proofs.lemmas.Map.Keys.{sorted_head, sorted_tail}
+use Rattle.std.proofs.lemmas.List.Elements.{All-contains}
 use Rattle.std.proofs.lemmas.Map.Views.{All-from_any, Contains-from_any}
-use Rattle.std.specs.List.{All, AllByRecursion, IsDistinct}
-use Rattle.std.specs.List.Sorted.{IsPermutation, IsSorted, IsStrictlySortedBy}
-use Rattle.std.specs.Ordering.{match_ordering, ordering_reverse, is_eq, is_lt}
+use Rattle.std.specs.List.{All, AllByRecursion}
+use Rattle.std.specs.List.Sorted.{IsStrictlySortedBy}
+use Rattle.std.specs.Ordering.{match_ordering, ordering_reverse, is_eq}
 use Rattle.std.specs.declared.cmp.Ordering.{Ordering}
 use Rattle.std.specs.declared.cmp.Ordering.TheVariants as order
 use Rattle.values.specs.declared.value.Value.{Value}
@@ -141,72 +135,7 @@ same_ascending (a ∷ as') (b ∷ bs) up down same =
     (λ q. tails_at a b q as' bs ha hb e (same q) (value_eq q a) refl) in
     (λ i. e i ∷ tails i)
 
--- ---- after a sort
-
-not_less_differ : (o : Ordering) → is_lt (ordering_reverse o) ≡ false → is_eq o ≡ false → o ≡ order.Less
-not_less_differ order.Less l e = refl
-not_less_differ order.Equal l e = absurd (false≢true (sym e))
-not_less_differ order.Greater l e = absurd (false≢true (sym l))
-
-next_less : (v w : Value) → is_lt (value_order w v) ≡ false → value_eq v w ≡ false → value_order v w ≡ order.Less
-next_less v w sorted apart = not_less_differ (value_order v w) (ap is_lt (sym (value_order-total.antisymm w v)) ∙ sorted) (sym (value_eq-ties v w) ∙ apart)
-
--- sorted values that differ ascend
-pub sorted_apart : (vs : List Value) → IsSorted value_order vs → IsDistinct value_eq vs → Ascends vs
-sorted_apart [] sorted apart = nil_ascends
-sorted_apart (v ∷ vs) sorted apart =
-    sorted_from_all_adjacent value_order-total (v ∷ vs) v (λ k below.
-    next_less (get_or (v ∷ vs) k v) (get_or (v ∷ vs) (k + 1) v) (sorted k v (omega arith) below) (apart_from_distinct value_eq (v ∷ vs) k (k + 1) v apart (omega arith) below))
-
--- ---- a set that takes one value more
-
-or_nothing : (a : Bool) → a || false ≡ a
-or_nothing true = refl
-or_nothing false = refl
-
-or_same : (a b : Bool) → (b ≡ true → a ≡ true) → a ≡ a || b
-or_same true b h = refl
-or_same false true h = h refl
-or_same false false h = refl
-
-insert_members_by : (q v : Value) (keys : List Value) (t : Bool) → is_member keys v ≡ t → is_member (cond t keys (keys ++ v ∷ [])) q ≡ is_member keys q || value_eq q v
-insert_members_by q v keys true t = or_same (is_member keys q) (value_eq q v) (λ e. list_any_congr value_eq-equiv q v keys e ∙ t)
-insert_members_by q v keys false t = list_any-append (value_eq q) keys (v ∷ []) ∙ ap (λ b. is_member keys q || b) (or_nothing (value_eq q v))
-
-insert_members : (q v : Value) (keys : List Value) → is_member (insert_key value_eq keys v) q ≡ is_member keys q || value_eq q v
-insert_members q v keys = insert_members_by q v keys (is_member keys v) refl
-
-insert_length : (v : Value) (keys : List Value) (t : Bool) → length (cond t keys (keys ++ v ∷ [])) ≤ length keys + 1
-insert_length v keys true = omega arith
-insert_length v keys false = omega (arith, length-append keys (v ∷ []))
-
-insert_unicode : (v : Value) (keys : List Value) (t : Bool) → All IsUnicode keys → IsUnicode v → All IsUnicode (cond t keys (keys ++ v ∷ []))
-insert_unicode v keys true all one = all
-insert_unicode v keys false all one = All-push IsUnicode keys v all one
-
--- the keys of the set after the values up to one, and after that one
-pub sees_more : (column keys new : List Value) (i : ℕ) (v d : Value) → i < length column → new ≡ insert_key value_eq keys v → v ≡ get_or column i d → IsUnicode v
-    → (length keys ≤ i) × ((q : Value) → is_member keys q ≡ is_member (take i column) q) × All IsUnicode keys
-    → (length new ≤ i + 1) × ((q : Value) → is_member new q ≡ is_member (take (i + 1) column) q) × All IsUnicode new
-sees_more column keys new i v d within is item one h = (
-  subst (λ xs. length xs ≤ i + 1) (sym is) (let m = insert_length v keys (is_member keys v) in omega (arith, h.0)),
-  (λ q. ap (λ xs. is_member xs q) is ∙ insert_members q v keys ∙ ap (λ b. b || value_eq q v) (h.1 q) ∙ ap (λ x. is_member (take i column) q || value_eq q x) item
-      ∙ sym (list_any_more (value_eq q) column i d within)),
-  subst (All IsUnicode) (sym is) (insert_unicode v keys (is_member keys v) h.2 one),
-)
-
--- the same keys where that one is among them
-pub sees_again : (column keys : List Value) (i : ℕ) (v d : Value) → i < length column → is_member keys v ≡ true → v ≡ get_or column i d
-    → (length keys ≤ i) × ((q : Value) → is_member keys q ≡ is_member (take i column) q) × All IsUnicode keys
-    → (length keys ≤ i + 1) × ((q : Value) → is_member keys q ≡ is_member (take (i + 1) column) q) × All IsUnicode keys
-sees_again column keys i v d within seen item h = (
-  omega (arith, h.0),
-  (λ q. or_same (is_member keys q) (value_eq q v) (λ e. list_any_congr value_eq-equiv q v keys e ∙ seen) ∙ ap (λ b. b || value_eq q v) (h.1 q)
-      ∙ ap (λ x. is_member (take i column) q || value_eq q x) item ∙ sym (list_any_more (value_eq q) column i d within)),
-  h.2,
-)
-
--- ---- the dictionary of sorted distinct values
+-- ---- the dictionary of distinct values
 
 put_length : (v : Value) (vs : List Value) → length (put_in v vs) ≤ length vs + 1
 put_length v [] = omega arith
@@ -223,13 +152,6 @@ distinct_length (v ∷ vs) =
     let one = put_length v (distinct vs) in
     let rest = distinct_length vs in
     omega (arith, one, rest)
-
--- those at first sight, put in order
-pub sorted_firsts : (column firsts values : List Value) → ((q : Value) → is_member firsts q ≡ is_member column q) → IsDistinct value_eq firsts → IsPermutation firsts values → IsSorted value_order values → values ≡ distinct column
-sorted_firsts column firsts values members apart moved sorted =
-    let up : Ascends values = sorted_apart values sorted (IsDistinct-IsPermutation value_eq value_eq-equiv.symm firsts values moved apart) in
-    same_ascending values (distinct column) up (distinct_ascends column)
-    (λ q. sym (list_any-IsPermutation (value_eq q) firsts values moved) ∙ members q ∙ sym (distinct_members q column))
 
 -- the distinct values of values that have the members of a column are the column's dictionary
 pub distinct_so : (column seen values : List Value) → ((q : Value) → is_member seen q ≡ is_member column q) → values ≡ distinct seen → values ≡ distinct column

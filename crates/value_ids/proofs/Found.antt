@@ -1,17 +1,15 @@
 -- What a search by halving finds among ascending values; one more id of an ascending list.
-use Rattle.std.proofs.Common.{◌≡◌, ◌∙◌, ◌<◌, ◌+◌, ℕ, false, List, [], ◌∷◌, ◌++◌, ◌-◌, length, get_or, Option, Some, None, refl, sym, ap, subst, arith, inl, inr}
+use Rattle.std.proofs.Common.{◌≡◌, ◌∙◌, ◌<◌, ◌≤◌, ℕ, false, List, [], ◌∷◌, ◌++◌, ◌-◌, length, get_or, Option, Some, None, refl, sym, ap, subst, arith, inl, inr}
 use Rattle.std.proofs.lemmas.Bool.{cases_lt}
 use Rattle.std.proofs.lemmas.Cmp.{nat_cmp_total}
 use Rattle.std.proofs.lemmas.List.{length-append}
 use Rattle.std.proofs.lemmas.List.Folds.{list_any_none}
-use Rattle.std.proofs.lemmas.List.Sorted.{searchable_from_sorted}
-use Rattle.std.proofs.lemmas.Map.Keys.{Less-from_sorted}
 use Rattle.std.proofs.lemmas.Option.{slice_get-get_or}
 use Rattle.std.specs.Cmp.{nat_cmp_is}
 use Rattle.std.specs.List.{HoldsAt, slice_get}
-use Rattle.std.specs.List.Sorted.{IsNonDecreasingBy, IsPartitionPoint, IsSorted, IsStrictlySortedBy}
+use Rattle.std.specs.List.Sorted.{IsStrictlySortedBy}
 use Rattle.std.specs.Option.{IfSome}
-use Rattle.std.specs.Ordering.{is_eq, is_lt, nat_cmp, ordering_index, ordering_reverse}
+use Rattle.std.specs.Ordering.{is_eq, nat_cmp, ordering_reverse}
 use Rattle.std.specs.declared.cmp.Ordering.{Ordering}
 use Rattle.std.specs.declared.cmp.Ordering.TheVariants as order
 use Rattle.values.proofs.Bounds.{same_value}
@@ -19,8 +17,7 @@ use Rattle.values.specs.declared.value.Value.{Value}
 use Rattle.values.specs.Order.{value_order, value_eq}
 use Rattle.values.specs.Order.Laws.{value_order-total, value_eq-ties}
 use Rattle.values.specs.Tests.{is_member}
-use Rattle.value_ids.specs.Dictionary.{Ascends}
-use Rattle.value_ids.specs.Ids.{IsAboveLast, IsIdSet}
+use Rattle.value_ids.specs.Ids.{Cuts, IsAboveLast, IsIdSet}
 use Rattle.value_ids.proofs.Ascending.{none_ascends, push_ascends}
 
 -- ---- values
@@ -29,21 +26,19 @@ pub found : (values : List Value) (x : Value) (i : ℕ) → i < length values �
 found values x i within equal =
     slice_get-get_or values i x within ∙ ap Some (same_value (get_or values i x) x (value_eq-ties (get_or values i x) x ∙ ap is_eq (equal x)))
 
-pub sorted_from : (values : List Value) → Ascends values → IsSorted value_order values
-sorted_from values up k d _ below =
-    ap is_lt (value_order-total.antisymm (get_or values (k + 1) d) (get_or values k d) ∙ ap ordering_reverse (Less-from_sorted value_order values k (k + 1) d up (omega arith) below))
-
 differ : (x y : Value) → (o : Ordering) → value_order y x ≡ o → is_eq (ordering_reverse o) ≡ false → value_eq x y ≡ false
 differ x y o e other = value_eq-ties x y ∙ ap is_eq (value_order-total.antisymm x y ∙ ap ordering_reverse e) ∙ other
 
-pub not_found : (values : List Value) (x : Value) (i : ℕ) → Ascends values
-    → (IsNonDecreasingBy (λ y. ordering_index (value_order y x)) values → IsPartitionPoint (λ y. value_order y x ≡ order.Less) (λ y. value_order y x ≡ order.Greater) values i) → is_member values x ≡ false
-not_found values x i up parts =
-    let p = parts (searchable_from_sorted value_order-total (λ (v : Value). v) values x (sorted_from values up)) in
-    list_any_none (value_eq x) values (λ k d within.
-    elim (cases_lt k i) [
-      | inl lt ↦ differ x (get_or values k d) order.Less (p.0 k d (omega arith) lt) refl
-      | inr le ↦ differ x (get_or values k d) order.Greater (p.1 k d le within) refl
+-- a bound that cuts values apart is the one between, or none of them
+pub cut_here : (values : List Value) (bound : Value) (from to : ℕ) → Cuts values bound from to → from < to → slice_get values from ≡ Some bound
+cut_here values bound from to cut some = let within = cut.within in found values bound from (omega (arith, some, within)) (λ d. cut.equal from d (omega arith) some)
+
+pub cut_absent : (values : List Value) (bound : Value) (from to : ℕ) → Cuts values bound from to → to ≤ from → is_member values bound ≡ false
+cut_absent values bound from to cut none =
+    list_any_none (value_eq bound) values (λ k d within.
+    elim (cases_lt k from) [
+      | inl lt ↦ differ bound (get_or values k d) order.Less (cut.less k d lt) refl
+      | inr le ↦ differ bound (get_or values k d) order.Greater (cut.greater k d (omega (arith, le, none)) within) refl
     ])
 
 -- ---- ids

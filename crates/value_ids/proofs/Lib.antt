@@ -2,7 +2,9 @@ pub mod Ascending
 pub mod CodingLemmas
 pub mod DistinctLemmas
 pub mod Found
+pub mod Halving
 pub mod IdLemmas
+pub mod ListLemmas
 pub mod MaskLemmas
 pub mod MatchLemmas
 pub mod SetLemmas

@@ -3,13 +3,12 @@ use Rattle.std.proofs.Common.{◌≡◌, ◌∙◌, ◌<◌, ◌≤◌, ◌+◌,
 use Rattle.std.proofs.lemmas.Bool.{cases_lt, cases_order, eqb-true, false≢true, le-leb, le-ltb, lt-leb, lt-ltb, ne_eqb}
 use Rattle.std.proofs.lemmas.List.{drop_more, take_all}
 use Rattle.std.proofs.lemmas.List.Folds.{list_any_more}
-use Rattle.std.proofs.lemmas.List.Sorted.{searchable_from_sorted}
 use Rattle.std.proofs.lemmas.Map.Keys.{Less-from_sorted, below_from_sorted, sorted_tail}
 use Rattle.std.proofs.lemmas.Option.{slice_get_cases, slice_get_past, slice_get_read}
 use Rattle.std.specs.List.{AllByRecursion, HoldsAt}
 use Rattle.std.specs.Cmp.{nat_cmp_is}
-use Rattle.std.specs.List.Sorted.{IsNonDecreasingBy, IsPartitionPoint, IsStrictlySortedBy}
-use Rattle.std.specs.Ordering.{is_eq, is_ne, is_lt, is_le, is_gt, is_ge, nat_cmp, ordering_index, ordering_reverse}
+use Rattle.std.specs.List.Sorted.{IsStrictlySortedBy}
+use Rattle.std.specs.Ordering.{is_eq, is_ne, is_lt, is_le, is_gt, is_ge, nat_cmp, ordering_reverse}
 use Rattle.std.specs.declared.cmp.Ordering.{Ordering}
 use Rattle.std.specs.declared.cmp.Ordering.TheVariants as order
 use Rattle.values.specs.declared.value.Value.{Value}
@@ -25,7 +24,6 @@ use Rattle.value_ids.specs.Dictionary.{Ascends}
 use Rattle.value_ids.specs.Ids.{AreThose, Cuts, Picks, has_id, holds_at, is_in_both, is_in_either, is_outside, is_within, matching, matching_from, negated_ids, IsIdSet}
 use Rattle.value_ids.proofs.Ascending.{none_ascends}
 use Rattle.value_ids.proofs.IdLemmas.{each_matching}
-use Rattle.value_ids.proofs.Found.{sorted_from}
 use Rattle.value_ids.proofs.MaskLemmas.{has_pushed}
 use Rattle.value_ids.proofs.SetLemmas.{either_past, outside_past}
 
@@ -42,19 +40,6 @@ cut_found values bound i up within equal =
       equal = (λ id d le lt. let same : id ≡ i = omega (arith, le, lt) in subst (λ k. value_order (get_or values k d) bound ≡ order.Equal) (sym same) (equal d));
       greater = (λ id d le lt.
           value_order-total.antisymm (get_or values id d) bound ∙ ap ordering_reverse (subst (λ v. value_order v (get_or values id d) ≡ order.Less) (is d) (Less-from_sorted value_order values i id d up (omega (arith, le)) lt)));
-    }
-
-pub cut_missed : (values : List Value) (bound : Value) (i : ℕ) → Ascends values → i ≤ length values
-    → (IsNonDecreasingBy (λ y. ordering_index (value_order y bound)) values → IsPartitionPoint (λ y. value_order y bound ≡ order.Less) (λ y. value_order y bound ≡ order.Greater) values i) → Cuts values bound i i
-cut_missed values bound i up within parts =
-    let p = parts (searchable_from_sorted value_order-total (λ (v : Value). v) values bound (sorted_from values up)) in
-    record {
-      order = omega arith;
-      once = omega arith;
-      within = within;
-      less = (λ id d lt. p.0 id d (omega arith) lt);
-      equal = (λ id d le lt. absurd (omega (arith, le, lt)));
-      greater = (λ id d le lt. p.1 id d le lt);
     }
 
 -- ---- one value

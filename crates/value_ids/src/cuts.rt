@@ -8,14 +8,15 @@ ghost use Rattle.values.specs.Tests.{op_holds};
 ghost use Rattle.value_ids.specs.Dictionary.{Ascends, most_values};
 ghost use Rattle.value_ids.specs.Ids.{Cuts, Picks};
 
-use crate::{IdSet, complement_of, range_of};
+use crate::{IdSet, ValueList, complement_of, range_of};
 use std::alloc::Global;
+use std::cmp::Ordering;
 use values::{CompareOp, NoMemory, Value};
 
-/// AscendingValues values, none of them twice, and no more than a column has.
+/// Ascending values, none of them twice, and no more than a column has.
 #[derive(Clone, Copy)]
 pub struct AscendingValues<'a> {
-    pub values: &'a [Value],
+    pub values: &'a ValueList,
     ghost at_most: { length values.now ≤ most_values },
     ghost ascends: { Ascends values.now } by { Prim.hlevel props },
 }
@@ -32,16 +33,22 @@ pub struct Cut {
 pub fn cut_at(ascending: AscendingValues<'_>, bound: &Value) -> Cut
     ensures { Cuts ascending.entry.values.now bound.now result.from result.to }
 {
-    match ascending.values.binary_search(bound) {
-        Ok(id) => Cut {
-            from: id as u32,
-            to: id as u32 + 1,
-        },
-        Err(id) => Cut {
-            from: id as u32,
-            to: id as u32,
-        },
+    let mut low = 0;
+    let mut high = ascending.values.len() as u32;
+    'halves: while low < high {
+        let middle = low + (high - low) / 2;
+        match ascending.values.order_at(middle as usize, bound) {
+            Ordering::Less => low = middle + 1,
+            Ordering::Greater => high = middle,
+            Ordering::Equal => {
+                return Cut {
+                    from: middle,
+                    to: middle + 1,
+                };
+            }
+        }
     }
+    Cut { from: low, to: low }
 }
 
 /// The ids of the values that stand so to a bound: those of one run, or all others.

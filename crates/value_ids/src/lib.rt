@@ -1,17 +1,16 @@
-//! The ids of a column's distinct values, which are the places of these in ascending order, and
-//! sets of ids.
-//! Values in ascending order: the distinct ones of a column, ids by their ranks, cuts by a bound.
+//! Values of one sort in a list, ids of ascending ones by their places, cuts by a bound, and sets
+//! of ids.
 #![tactic(auto)]
 
 mod cuts;
-mod distinct;
 mod id_set;
 mod id_sets;
 mod mask;
 mod ranks;
+mod value_list;
 
 pub use cuts::{AscendingValues, Cut, compared, cut_at};
-pub use distinct::distinct_values;
 pub use id_set::IdSet;
 pub use id_sets::{complement_of, intersection_of, range_of, set_of, union_of};
 pub use ranks::rank_places;
+pub use value_list::{ValueList, bytes_at};

@@ -12,5 +12,4 @@ pub returns-in-Some : goal.returns-in-Some
 returns-in-Some c =
     let sees = subst (λ (o : Option CodedNumbers). IfSome o (λ coded. SeesNumbers c.args.numbers.now coded.seen.items coded.ids.items)) c.in-Some.is c.in_ok-seen.ensures.sees in
     let rise = subst (λ (o : Option CodedNumbers). IfSome o (λ coded. IsStrictlySortedBy int_cmp coded.seen.items)) c.in-Some.is c.in_ok-seen.ensures.rise in
-    number_ascending c.args.numbers.now c.in-Some.field-0.seen.items c.in-Some.field-0.ids.items c.in_ok-values.values.items sees rise
-    (c.in_ok-values.ensures ∙ ap (map Whole) c.deref.ensures.value)
+    number_ascending c.args.numbers.now c.in-Some.field-0.seen.items c.in-Some.field-0.ids.items c.of_numbers.result sees rise c.of_numbers.ensures

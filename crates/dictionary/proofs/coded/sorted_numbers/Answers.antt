@@ -6,5 +6,5 @@ use Rattle.dictionary.proofs.coded.sorted_numbers.Goals as goal
 
 pub returns : goal.returns
 returns c =
-    number_rows c.args.numbers.now c.in_ok-order.field-0.order.items c.in_ok-order.field-0.ranks.items c.in_ok-values.values.items c.in_ok-order.ensures
-    (c.in_ok-values.ensures ∙ ap (λ places. map Whole (at_places (pos 0) c.args.numbers.now places)) c.deref.ensures.value)
+    number_rows c.args.numbers.now c.in_ok-order.field-0.order.items c.in_ok-order.field-0.ranks.items c.of_numbers-values.result c.in_ok-order.ensures
+    (c.of_numbers-values.ensures ∙ ap (map Whole) c.in_ok-numbers_at.ensures ∙ ap (λ places. map Whole (at_places (pos 0) c.args.numbers.now places)) c.deref.ensures.value)

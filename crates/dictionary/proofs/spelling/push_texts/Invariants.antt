@@ -2,5 +2,5 @@ use Rattle.std.proofs.Common.{◌≡◌, ◌++◌, take}
 use Rattle.dictionary.specs.Spelling.{texts}
 use Rattle.dictionary.proofs.spelling.push_texts.Given as goal
 
-abbrev pub invariant-loop-value : goal.invariant-loop-value
-invariant-loop-value l = l.out.items ≡ l.fn.out.items ++ texts (take l.value-index l.values)
+abbrev pub invariant-places : goal.invariant-places
+invariant-places l = l.out.items ≡ l.fn.out.items ++ texts (take l.at l.values)

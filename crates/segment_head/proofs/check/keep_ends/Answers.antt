@@ -1,4 +1,4 @@
-use Rattle.std.proofs.Common.{◌∙◌, ◌++◌, ◌∷◌, ◌-◌, [], sym, ap}
+use Rattle.std.proofs.Common.{◌∙◌, ◌-◌, sym, ap}
 use Rattle.std.specs.List.{slice_get}
 use Rattle.segment_head.proofs.Loops.{ends_kept, none_kept}
 use Rattle.segment_head.proofs.check.keep_ends.Goals as goal
@@ -10,6 +10,5 @@ pub returns : goal.returns
 returns c =
     let values = c.args.dictionary.now.values in
     let old = c.args.bounds.now.items in
-    let last = ap (slice_get values) (ap (λ n. n - 1) (sym c.count-count.ensures.count)) ∙ c.value_at-2.ensures in
-    ends_kept values c.value_at.result.now c.value_at-2.result.now old c.push.new.self.items c.value_at.ensures last
-    (c.in_ok-push.ensures.items ∙ (λ i. old ++ record { least = c.in_ok-least.ensures i; greatest = c.in_ok-greatest.ensures i } ∷ []))
+    let last = ap (slice_get values) (ap (λ n. n - 1) (sym c.count-count.ensures.count)) ∙ c.in_ok-greatest.ensures in
+    ends_kept values c.in_ok-least.least c.in_ok-greatest.greatest old c.push.new.self.items c.in_ok-least.ensures last c.in_ok-push.ensures.items

@@ -24,9 +24,9 @@ loop-i-preserved c =
     let i = c.loop-i.i in
     let column : GroupColumn = get_or columns i c.index-columns-i.result in
     let next : suc i ≡ i + 1 = omega arith in
-    let value : c.in_ok-copy.field-0 ≡ value_of column (get_or ids i star) = c.in_ok-copy.ensures
-    ∙ sym (get_or_from_slice_get column.values.now.values c.dim-id.result c.value_at.result.now
-    (Whole (pos 0)) c.value_at.ensures)
+    let value : c.in_ok-value_at.field-0 ≡ value_of column (get_or ids i star) =
+    sym (get_or_from_slice_get column.values.now.values c.dim-id.result c.in_ok-value_at.field-0
+    (Whole (pos 0)) c.in_ok-value_at.ensures)
     ∙ ap (value_of column) c.dim-id.ensures in
     c.in_ok-push.ensures.ok ∙ (λ j. c.loop-i.invariant j ++ value j ∷ [])
     ∙ sym (key_value columns ids i c.index-columns-i.result star c.requires.ids c.loop-i-test.true)

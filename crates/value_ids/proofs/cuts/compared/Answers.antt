@@ -1,4 +1,4 @@
-use Rattle.std.proofs.Common.{IfOk, length, subst, sym}
+use Rattle.std.proofs.Common.{ℕ, IfOk, length, subst, sym}
 use Rattle.values.specs.declared.test.CompareOp.{CompareOp}
 use Rattle.values.specs.declared.test.CompareOp.TheVariants as op
 use Rattle.values.specs.Order.{value_order}
@@ -29,16 +29,19 @@ pub returns-in-More : goal.returns-in-More
 returns-in-More c =
     subst (λ (k : CompareOp). IfOk c.range_of-in-More.result (Picks (λ value. op_holds k (value_order value c.args.bound.now)) c.args.ascending.values.now)) (sym c.in-More.is)
     (if_ok c.range_of-in-More.result (AreThose (is_within c.cut_at-from.result.to (length c.args.ascending.values.now))) (Picks (λ value. op_holds op.More (value_order value c.args.bound.now)) c.args.ascending.values.now)
-    (more_run c.args.ascending.values.now c.args.bound.now c.cut_at-from.result.from c.cut_at-from.result.to c.cut_at-from.ensures) c.range_of-in-More.ensures)
+    (more_run c.args.ascending.values.now c.args.bound.now c.cut_at-from.result.from c.cut_at-from.result.to c.cut_at-from.ensures)
+    (subst (λ (n : ℕ). IfOk c.range_of-in-More.result (AreThose (is_within c.cut_at-from.result.to n))) c.len-count.ensures c.range_of-in-More.ensures))
 
 pub returns-in-AtLeast : goal.returns-in-AtLeast
 returns-in-AtLeast c =
     subst (λ (k : CompareOp). IfOk c.range_of-in-AtLeast.result (Picks (λ value. op_holds k (value_order value c.args.bound.now)) c.args.ascending.values.now)) (sym c.in-AtLeast.is)
     (if_ok c.range_of-in-AtLeast.result (AreThose (is_within c.cut_at-from.result.from (length c.args.ascending.values.now))) (Picks (λ value. op_holds op.AtLeast (value_order value c.args.bound.now)) c.args.ascending.values.now)
-    (at_least_run c.args.ascending.values.now c.args.bound.now c.cut_at-from.result.from c.cut_at-from.result.to c.cut_at-from.ensures) c.range_of-in-AtLeast.ensures)
+    (at_least_run c.args.ascending.values.now c.args.bound.now c.cut_at-from.result.from c.cut_at-from.result.to c.cut_at-from.ensures)
+    (subst (λ (n : ℕ). IfOk c.range_of-in-AtLeast.result (AreThose (is_within c.cut_at-from.result.from n))) c.len-count.ensures c.range_of-in-AtLeast.ensures))
 
 pub returns-in_ok-range_of-in-Unequal : goal.returns-in_ok-range_of-in-Unequal
 returns-in_ok-range_of-in-Unequal c =
     subst (λ (k : CompareOp). IfOk c.complement_of-in-Unequal.result (Picks (λ value. op_holds k (value_order value c.args.bound.now)) c.args.ascending.values.now)) (sym c.in-Unequal.is)
     (if_ok c.complement_of-in-Unequal.result (AreThose (is_outside (length c.args.ascending.values.now) c.in_ok-range_of-in-Unequal.field-0)) (Picks (λ value. op_holds op.Unequal (value_order value c.args.bound.now)) c.args.ascending.values.now)
-    (λ new. unequal_run c.args.ascending.values.now c.args.bound.now c.cut_at-from.result.from c.cut_at-from.result.to c.in_ok-range_of-in-Unequal.field-0 new c.cut_at-from.ensures c.in_ok-range_of-in-Unequal.ensures) c.complement_of-in-Unequal.ensures)
+    (λ new. unequal_run c.args.ascending.values.now c.args.bound.now c.cut_at-from.result.from c.cut_at-from.result.to c.in_ok-range_of-in-Unequal.field-0 new c.cut_at-from.ensures c.in_ok-range_of-in-Unequal.ensures)
+    (subst (λ (n : ℕ). IfOk c.complement_of-in-Unequal.result (AreThose (is_outside n c.in_ok-range_of-in-Unequal.field-0))) c.len-count.ensures c.complement_of-in-Unequal.ensures))

@@ -9,7 +9,8 @@ use Rattle.value_ids.proofs.MatchLemmas.{cut_found}
 use Rattle.dictionary_reading.specs.declared.in_file.FileDictionary.{FileDictionary}
 use Rattle.dictionary_reading.specs.InFile.{OfDictionary}
 use Rattle.dictionary_reading.proofs.CallLemmas.{looks_after, looks_ok}
-use Rattle.dictionary_reading.proofs.CutLemmas.{Halved, halved_greater, halved_less, of_both, of_more, probed_few, probed_more}
+use Rattle.value_ids.proofs.Halving.{Halved, halved_greater, halved_less}
+use Rattle.dictionary_reading.proofs.CutLemmas.{of_both, of_more, probed_few, probed_more}
 use Rattle.dictionary_reading.proofs.Faults.{reads_well}
 use Rattle.dictionary_reading.proofs.LogLemmas.{logs_more, logs_then}
 use Rattle.dictionary_reading.proofs.in_file.FileDictionary.cut.Goals as goal

@@ -1,7 +1,8 @@
 use Rattle.std.proofs.Common.{◌≤◌, ◌-◌, ◌*◌, ℕ}
 use Rattle.outside.specs.Seen.{OnlyReads, seen}
 use Rattle.dictionary_reading.specs.InFile.{LogsInside, OfDictionary}
-use Rattle.dictionary_reading.proofs.CutLemmas.{Halved, Probed}
+use Rattle.value_ids.proofs.Halving.{Halved}
+use Rattle.dictionary_reading.proofs.CutLemmas.{Probed}
 use Rattle.dictionary_reading.proofs.in_file.FileDictionary.cut.Given as goal
 
 abbrev pub invariant-halves : goal.invariant-halves

@@ -1,6 +1,0 @@
-use Rattle.std.proofs.Common.{◌≡◌, ◌++◌, take}
-use Rattle.dictionary.specs.Spelling.{numbers}
-use Rattle.dictionary.proofs.spelling.push_numbers.Given as goal
-
-abbrev pub invariant-loop-value : goal.invariant-loop-value
-invariant-loop-value l = l.out.items ≡ l.fn.out.items ++ numbers (take l.value-index l.values)
