@@ -7,8 +7,9 @@ use Rattle.values.specs.declared.value.Value.TheVariants.{Whole}
 use Rattle.values.specs.Columns.{row_of}
 use Rattle.coded_columns.specs.declared.coded.Coded.{Coded}
 use Rattle.coded_columns.specs.declared.coded.SegmentColumns.{SegmentColumns}
+use Rattle.value_ids.specs.Coding.{AreBelow}
 use Rattle.coded_columns.specs.Coded.{IsOfField, IsUnread, column_of, most_rows, table_of}
-use Rattle.coded_columns.specs.Keyed.{SetsFirst}
+use Rattle.coded_columns.specs.Keyed.{IsSetBy, MeetsRow, SetsFirst}
 use Rattle.coded_columns.specs.Keys.{AreKeys, key_at, packed_after, packed_with}
 use Rattle.coded_columns.proofs.SlotLemmas.{key-more, unpacked}
 
@@ -87,33 +88,74 @@ module _ (segment : SegmentColumns) where
       }
 
 -- one row more
-pub first-next : (n : ℕ) (keys places old new : List ℕ) → n < length keys → get_or keys n 0 < length new → ((k : ℕ) → SetsFirst n keys places k (get_or old k 0) (get_or new k 0))
-    → (k : ℕ) → SetsFirst (n + 1) keys places k (get_or old k 0) (get_or (set new (get_or keys n 0) (get_or places n 0 + 1)) k 0)
-first-next n keys places old new lt in_new so k =
+pub first-next : (n : ℕ) (keys places old new next : List ℕ) → n < length keys → get_or keys n 0 < length new → ((k : ℕ) → SetsFirst n keys places k (get_or old k 0) (get_or new k 0))
+    → MeetsRow (get_or keys n 0) (get_or places n 0) new next → (k : ℕ) → SetsFirst (n + 1) keys places k (get_or old k 0) (get_or next k 0)
+first-next n keys places old new next lt in_new so meets k =
     let own : ℕ = get_or keys n 0 in
     let entry : ℕ = get_or places n 0 + 1 in
-    elim (cases_eq k own) [
-      | inl e ↦ inr (record {
-        at = n;
-        within = omega arith;
-        has = sym e;
-        is = ap (λ i. get_or (set new own entry) i 0) e ∙ get_or-set_same new own entry 0 in_new;
-      })
-      | inr ne ↦
-          let other : get_or (set new own entry) k 0 ≡ get_or new k 0 = get_or-set_other new own k entry 0 ne in
+    let longer : IsSetBy n keys places k (get_or new k 0) → get_or next k 0 ≡ get_or new k 0 → IsSetBy (n + 1) keys places k (get_or next k 0) = λ by same. record {
+      at = by.at;
+      within = omega (arith, by.within);
+      has = by.has;
+      first = by.first;
+      is = same ∙ by.is;
+    } in
+    elim (cases_lt 0 (get_or new own 0)) [
+      | inl some ↦
+          let same : get_or next k 0 ≡ get_or new k 0 = ap (λ (l : List ℕ). get_or l k 0) (meets.kept some) in
           elim (so k) [
             | inl kept ↦ inl (
-              other ∙ kept.0,
-              λ j j_lt. elim (cases_eq j n) [
-                | inl e ↦ λ has. ne (sym has ∙ ap (λ i. get_or keys i 0) e)
-                | inr apart ↦ kept.1 j (omega (arith, j_lt, apart))
+              same ∙ kept.0,
+              λ none j j_lt. elim (cases_eq j n) [
+                | inl e ↦ λ has.
+                    let at_own : get_or new own 0 ≡ get_or new k 0 = ap (λ i. get_or new i 0) (sym (ap (λ i. get_or keys i 0) e) ∙ has) in
+                    absurd (omega (arith, some, at_own, kept.0, none))
+                | inr apart ↦ kept.1 none j (omega (arith, j_lt, apart))
               ],
             )
-            | inr by ↦ inr (record {
-              at = by.at;
-              within = omega (arith, by.within);
-              has = by.has;
-              is = other ∙ by.is;
-            })
+            | inr by ↦ inr (by.0, longer by.1 same)
+          ]
+      | inr le ↦
+          let set_here : next ≡ set new own entry = meets.taken (omega (arith, le)) in
+          elim (cases_eq k own) [
+            | inl e ↦
+                let zero_here : get_or new k 0 ≡ 0 = ap (λ i. get_or new i 0) e ∙ omega (arith, le) in
+                elim (so k) [
+                  | inl kept ↦
+                      let none : get_or old k 0 ≡ 0 = sym kept.0 ∙ zero_here in
+                      inr (
+                        none,
+                        record {
+                          at = n;
+                          within = omega arith;
+                          has = sym e;
+                          first = kept.1 none;
+                          is = ap (λ (l : List ℕ). get_or l k 0) set_here ∙ ap (λ i. get_or (set new own entry) i 0) e ∙ get_or-set_same new own entry 0 in_new;
+                        },
+                      )
+                  | inr by ↦ absurd (omega (arith, zero_here, by.1.is))
+                ]
+            | inr ne ↦
+                let other : get_or next k 0 ≡ get_or new k 0 = ap (λ (l : List ℕ). get_or l k 0) set_here ∙ get_or-set_other new own k entry 0 ne in
+                elim (so k) [
+                  | inl kept ↦ inl (
+                    other ∙ kept.0,
+                    λ none j j_lt. elim (cases_eq j n) [
+                      | inl e ↦ λ has. ne (sym has ∙ ap (λ i. get_or keys i 0) e)
+                      | inr apart ↦ kept.1 none j (omega (arith, j_lt, apart))
+                    ],
+                  )
+                  | inr by ↦ inr (by.0, longer by.1 other)
+                ]
           ]
     ]
+
+-- there is a row for each key already
+pub first-kept : (n : ℕ) (keys places firsts : List ℕ) → n ≡ length keys → AreBelow (length firsts) keys → ((k : ℕ) → k < length firsts → 0 < get_or firsts k 0) → (k : ℕ) → SetsFirst n keys places k (get_or firsts k 0) (get_or firsts k 0)
+first-kept n keys places firsts many below all k = inl (
+  refl,
+  λ none j lt has. elim (cases_lt k (length firsts)) [
+    | inl k_lt ↦ absurd (omega (arith, all k k_lt, none))
+    | inr le ↦ absurd (omega (arith, below j 0 (omega (arith, lt, many)), has, le))
+  ],
+)

@@ -309,18 +309,18 @@ first-more count key before places k old new h s below =
               | inl front ↦ λ has. h.none (sym kept.0 ∙ e) j front (ap key (sym (get_or_append_left before places 0 j front)) ∙ has)
               | inr back ↦
                   let there : j - length before < length places = omega (arith, back, lt, length-append before places) in
-                  λ has. kept.1 (j - length before) there
+                  λ has. kept.1 (sym kept.0 ∙ e) (j - length before) there
                   (get_or-map key places (j - length before) 0 0 there ∙ ap key (sym (get_or-append_right before places (length before) j 0 refl back)) ∙ has)
             ];
         some = λ lt. let own = h.some (omega (arith, lt, kept.0)) in (omega (arith, own.0, kept.0), ap (λ n. key (n - 1)) kept.0 ∙ own.1);
         has = λ lt. omega (arith, many, h.has (omega (arith, lt, kept.0)));
       }
       | inr by ↦ record {
-        none = λ e j lt. absurd (omega (arith, e, by.is));
+        none = λ e j lt. absurd (omega (arith, e, by.1.is));
         some = λ lt.
-            let at : new - 1 ≡ get_or places by.at 0 = omega (arith, by.is) in
-            (omega (arith, at, below by.at 0 by.within), ap key at ∙ sym (get_or-map key places by.at 0 0 by.within) ∙ by.has);
-        has = λ lt. omega (arith, many, in_slot-some k (map key places) places by.at (length-map places key) by.within by.has);
+            let at : new - 1 ≡ get_or places by.1.at 0 = omega (arith, by.1.is) in
+            (omega (arith, at, below by.1.at 0 by.1.within), ap key at ∙ sym (get_or-map key places by.1.at 0 0 by.1.within) ∙ by.1.has);
+        has = λ lt. omega (arith, many, in_slot-some k (map key places) places by.1.at (length-map places key) by.1.within by.1.has);
       }
     ]
 

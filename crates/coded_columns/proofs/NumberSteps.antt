@@ -12,6 +12,7 @@ use Rattle.coded_columns.specs.declared.placed_rows.PlacedRows.{PlacedRows}
 use Rattle.coded_columns.specs.Coded.{IsOfField, table_of, value_in}
 use Rattle.coded_columns.specs.Keyed.{AreNumbersIn, number_in, rows_in}
 use Rattle.coded_columns.proofs.FoldSteps.{whole-from}
+use Rattle.coded_columns.proofs.SortSteps.{zero-whole}
 
 module _ (placed : PlacedRows) (out : List ℤ) (same : length out ≡ length placed.places.now) where
   -- the numbers of the rows, place by place
@@ -39,6 +40,3 @@ module _ (placed : PlacedRows) (out : List ℤ) (same : length out ≡ length pl
   pub numbers-zero : (column : Option ℕ) → ((at : ℕ) → number_in column (row_of (table_of placed.segment.now).columns at) ≡ pos 0) → All (λ number. number ≡ pos 0) out → AreNumbersIn column (rows_in placed) out
   numbers-zero column none zeros =
       numbers-by column (λ k lt. zeros k (pos 0) lt ∙ sym (none (get_or placed.places.now k 0))) (λ k d lt. zero-whole (get_or out k d) (zeros k d lt))
-    where
-      zero-whole : (x : ℤ) → x ≡ pos 0 → IsWhole x
-      zero-whole x is = (omega (arith, ints, is), omega (arith, ints, is))

@@ -1,5 +1,5 @@
 -- What is kept of rows by their keys: for each key a row that has it, and the aggregates.
-use Rattle.std.specs.Prelude.{◌≡◌, ◌≢◌, ◌⊎◌, ◌<◌, ◌≤◌, ◌+◌, ◌-◌, ◌++◌, ℕ, ℤ, pos, List, Option, Some, length, get_or, map}
+use Rattle.std.specs.Prelude.{◌≡◌, ◌≢◌, ◌⊎◌, ◌<◌, ◌≤◌, ◌+◌, ◌-◌, ◌++◌, ℕ, ℤ, pos, List, Option, Some, length, get_or, map, set}
 use Rattle.std.specs.List.{All}
 use Rattle.std.specs.Option.{option_map_or}
 use Rattle.values.specs.declared.value.Value.{Value}
@@ -181,17 +181,24 @@ pub record TakesRows (segment : SegmentColumns) (groups : List ℕ) (aggs : List
   pub sizes : All (λ own. size_in own ≡ length rows.firsts.items) rows.aggs.items
   pub fits : All (λ own. AllFit (most_rows - more) own) rows.aggs.items
 
--- what is kept of a key is a row among the first so many that has the key
+-- what is kept of a key is the first row that has it, which is among the first so many
 pub record IsSetBy (n : ℕ) (keys places : List ℕ) (k new : ℕ) : Type 0 where
   pub at : ℕ
   pub within : at < n
   pub has : get_or keys at 0 ≡ k
+  pub first : (j : ℕ) → j < at → get_or keys j 0 ≢ k
   pub is : new ≡ get_or places at 0 + 1
 
--- the same, or as it was where none of them has the key
+-- what was kept of a key stays; of one that no row had the first row is kept, if there is one
 abbrev pub SetsFirst : ℕ → List ℕ → List ℕ → ℕ → ℕ → ℕ → Type 0
 SetsFirst n keys places k old new =
-    ((new ≡ old) × ((j : ℕ) → j < n → get_or keys j 0 ≢ k)) ⊎ IsSetBy n keys places k new
+    ((new ≡ old) × (old ≡ 0 → (j : ℕ) → j < n → get_or keys j 0 ≢ k))
+    ⊎ ((old ≡ 0) × IsSetBy n keys places k new)
+
+-- a row of this key was met: it is kept if none was
+pub record MeetsRow (key place : ℕ) (old new : List ℕ) : Type 0 where
+  pub taken : get_or old key 0 ≡ 0 → new ≡ set old key (place + 1)
+  pub kept : 0 < get_or old key 0 → new ≡ old
 
 -- the rows in these places, which have these keys, were added
 pub record AddsPlaces (placed : PlacedRows) (aggs : List Agg) (keys : List ℕ)

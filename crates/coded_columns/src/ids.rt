@@ -1,6 +1,6 @@
 //! The ids of the rows in a column, in as few bytes as they take.
 
-ghost use Rattle.std.specs.Prelude.{◌≡◌, ◌≤◌, ◌<◌, ◌+◌, ◌++◌, [], ℕ, All, IfOk, OnOk, get_or, length};
+ghost use Rattle.std.specs.Prelude.{◌≡◌, ◌≤◌, ◌<◌, ◌+◌, [], ℕ, IfOk, get_or, length};
 ghost use Rattle.coded_columns.specs.Ids.{HasRoom, IsNarrow, ids_in, most_narrow, seen_ids};
 
 use std::alloc::Global;
@@ -112,7 +112,7 @@ impl IdSlices<'_> {
     }
 }
 
-/// Room for the ids of a column, which are added block by block.
+/// Room for the ids of a column, which are added block by block. Each has room in it.
 #[derive(Drop)]
 pub enum IdRoom {
     Narrow(Vec<u16>),
@@ -132,46 +132,10 @@ impl IdRoom {
         Ok(IdRoom::Wide(Vec::with_capacity(alloc, rows)?))
     }
 
-    /// Adds the ids of a block, each of which has room.
-    pub fn append(&mut self, block: &[u32]) -> Result<(), NoMemory>
-        requires { All (HasRoom self.old) block.now }
-        ensures ids { OnOk result (ids_in self.new ≡ ids_in self.old ++ block.now) }
-        ensures room { (id : ℕ) → HasRoom self.old id → HasRoom self.new id }
-        ensures least { IsNarrow self.old → IsNarrow self.new }
-    {
-        match self {
-            IdRoom::Narrow(ids) => append_narrow(block, ids)?,
-            IdRoom::Wide(ids) => ids.extend_from_slice(block)?,
-        }
-        Ok(())
-    }
-
     /// The ids that were added.
     pub fn into_ids(self) -> Ids
         ensures { result ≡ ids_in self }
     {
         Ids { room: self }
-    }
-}
-
-// Adds ids in two bytes each.
-fn append_narrow(block: &[u32], ids: &mut Vec<u16>) -> Result<(), NoMemory>
-    requires { All (λ id. id < most_narrow) block.now }
-    ensures { OnOk result (ids.new.items ≡ ids.old.items ++ block.now) }
-{
-    let start = ids.len();
-    ids.resize(start + block.len(), 0)?;
-    narrow(block, &mut ids[start..]);
-    Ok(())
-}
-
-// Copies ids into two bytes each.
-fn narrow(block: &[u32], ids: &mut [u16])
-    requires same { length ids.old ≡ length block.now }
-    requires at_most { All (λ id. id < most_narrow) block.now }
-    ensures { ids.new ≡ block.now }
-{
-    for at in 0..block.len() {
-        ids[at] = block[at] as u16;
     }
 }

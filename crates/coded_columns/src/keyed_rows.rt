@@ -1,10 +1,11 @@
 //! What is kept of a segment's rows by their keys.
 
 ghost use Rattle.std.specs.Prelude.{◌≡◌, ◌<◌, ◌+◌, ℕ, [], IfOk, OnOk, get_or, length, map};
+ghost use Rattle.std.specs.Bool.{OnTrue};
 ghost use Rattle.std.specs.List.{All};
 ghost use Rattle.value_ids.specs.Coding.{AreBelow};
 ghost use Rattle.coded_columns.specs.Coded.{most_rows};
-ghost use Rattle.coded_columns.specs.Keyed.{AddsAgg, AddsPlaces, AllAdd, AreOfRows, HoldAggs, HoldsPacked, HoldsRows, SetsFirst, TakeKeys, TakesKeys, TakesRows, rows_in, size_in, state_in};
+ghost use Rattle.coded_columns.specs.Keyed.{AddsAgg, AddsPlaces, AllAdd, AreOfRows, HoldAggs, HoldsPacked, HoldsRows, MeetsRow, SetsFirst, TakeKeys, TakesKeys, TakesRows, rows_in, size_in, state_in};
 ghost use Rattle.coded_columns.specs.Keys.{AreKeys, key_at};
 
 use crate::counting::count_keys;
@@ -133,24 +134,43 @@ fn units_of(alloc: Global, aggs: &[Agg], size: usize) -> Result<Vec<KeyStates>, 
     Ok(owns)
 }
 
-// Keeps for each key a row that has it.
+// Keeps for each key the first row that has it. Where there is one for each already no key is
+// looked at.
 fn set_firsts(firsts: &mut [u32], keys: &[u32], placed: PlacedRows<'_, '_>)
     requires same { length keys.now ≡ length placed.places.now }
     requires below { AreBelow (length firsts.old) keys.now }
     ensures { (k : ℕ) → SetsFirst (length placed.entry.places.now) keys.now
         placed.entry.places.now k (get_or firsts.old k 0) (get_or firsts.new k 0) }
 {
+    if firsts.len() <= keys.len() && have_rows(firsts) {
+        return;
+    }
     let places = placed.places;
-    if keys.is_empty() {
-        return;
-    }
-    if firsts.len() == 1 {
-        // No key is looked at.
-        firsts[0] = places[keys.len() - 1] + 1;
-        return;
-    }
     for at in 0..keys.len() {
-        firsts[keys[at] as usize] = places[at] + 1;
+        meet_row(firsts, keys[at] as usize, places[at]);
+    }
+}
+
+// Whether there is a row for each key. It looks at each, so that it is done many at a time.
+fn have_rows(firsts: &[u32]) -> bool
+    ensures { OnTrue result ((k : ℕ) → k < length firsts.now → 0 < get_or firsts.now k 0) }
+{
+    let mut all = true;
+    for at in 0..firsts.len() {
+        all &= firsts[at] != 0;
+    }
+    all
+}
+
+// Keeps a row of a key, unless there was one.
+#[inline(always)]
+fn meet_row(firsts: &mut [u32], key: usize, place: u32)
+    requires key { key < length firsts.old }
+    requires place { place < most_rows }
+    ensures { MeetsRow key place firsts.old firsts.new }
+{
+    if firsts[key] == 0 {
+        firsts[key] = place + 1;
     }
 }
 

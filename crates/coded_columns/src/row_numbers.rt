@@ -1,8 +1,9 @@
 //! The numbers of some rows, which are kept for the next aggregate of the same column.
 
-ghost use Rattle.std.specs.Prelude.{◌≡◌, ◌<◌, ℕ, All, None, OnOk, Some, get_or, length, pos};
+ghost use Rattle.std.specs.Prelude.{◌≡◌, ◌<◌, ℕ, All, None, OnOk, Some, get_or, length, map, pos};
 ghost use Rattle.std.specs.Bool.{OnTrue};
 ghost use Rattle.agg_laws.specs.Numbers.{IsWhole};
+ghost use Rattle.values.specs.declared.value.Value.TheVariants as value;
 ghost use Rattle.group_table.specs.Groups.{number_of};
 ghost use Rattle.coded_columns.specs.Coded.{value_in};
 ghost use Rattle.coded_columns.specs.IdColumns.{HasIds};
@@ -11,7 +12,7 @@ ghost use Rattle.coded_columns.specs.Keyed.{AreNumbersIn, AreOfRows, rows_in};
 use crate::coded::Coded;
 use crate::placed_rows::PlacedRows;
 use std::alloc::Global;
-use values::{NoMemory, Value};
+use values::NoMemory;
 
 /// The numbers of some rows, and the column that they are of, if that is told.
 #[derive(Drop)]
@@ -95,10 +96,25 @@ fn put_zeros(out: &mut [i64])
     }
 }
 
-// Puts the numbers of rows in a column by their ids.
+// Puts the numbers of rows in a column; a text counts as 0.
 fn put_coded(placed: PlacedRows<'_, '_>, column: Coded<'_>, out: &mut [i64])
     requires same { length out.old ≡ length placed.places.now }
     requires ids { HasIds placed.segment.now.count column }
+    ensures each { (k : ℕ) → k < length out.new → get_or out.new k (pos 0)
+        ≡ number_of (value_in column.entry (get_or placed.entry.places.now k 0)) }
+    ensures whole { All IsWhole out.new }
+{
+    match column.dictionary.numbers() {
+        Some(numbers) => put_by_ids(placed, column, numbers, out),
+        None => put_zeros(out),
+    }
+}
+
+// Puts the numbers of rows in a column by their ids.
+fn put_by_ids(placed: PlacedRows<'_, '_>, column: Coded<'_>, numbers: &[i64], out: &mut [i64])
+    requires same { length out.old ≡ length placed.places.now }
+    requires ids { HasIds placed.segment.now.count column }
+    requires own { column.dictionary.now.values ≡ map value.Whole numbers.now }
     ensures each { (k : ℕ) → k < length out.new → get_or out.new k (pos 0)
         ≡ number_of (value_in column.entry (get_or placed.entry.places.now k 0)) }
     ensures whole { All IsWhole out.new }
@@ -107,18 +123,16 @@ fn put_coded(placed: PlacedRows<'_, '_>, column: Coded<'_>, out: &mut [i64])
     let ids = column.ids.slices();
     for k in 0..places.len() {
         let id = ids.at(places[k] as usize);
-        out[k] = number_of(column.dictionary.value_at(id));
+        out[k] = number_at(numbers, id);
     }
 }
 
-// The number that a value is; a text counts as 0.
+// The number of an id.
 #[inline(always)]
-fn number_of(value: &Value) -> i64
-    ensures value { result ≡ number_of value.now }
+fn number_at(numbers: &[i64], id: u32) -> i64
+    requires { id < length numbers.now }
+    ensures number { result ≡ get_or numbers.now id (pos 0) }
     ensures whole { IsWhole result }
 {
-    match value {
-        Value::Whole(number) => *number,
-        Value::Text(_) => 0,
-    }
+    numbers[id as usize]
 }

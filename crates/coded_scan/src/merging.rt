@@ -108,7 +108,7 @@ fn value_at(
         ≡ cell (row_of (table_of segment.now).columns at) field) }
 {
     match segment.column(field) {
-        Some(column) => column.dictionary.value_at(column.ids.at(at)).copy(alloc),
+        Some(column) => column.dictionary.value_at(alloc, column.ids.at(at)),
         None => Ok(Value::Whole(0)),
     }
 }
