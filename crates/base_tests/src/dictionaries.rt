@@ -239,10 +239,14 @@ fn id_of(alloc: Global, countries: &Dictionary, country: &str) -> Option<u32> {
     id
 }
 
-fn is_fourth(countries: &Dictionary, value: Value) -> bool {
-    let is_so = countries.count() > 3 && countries.value_at(3).eq(&value);
-    drop(value);
-    is_so
+fn is_fourth(alloc: Global, countries: &Dictionary, value: Value) -> bool {
+    if countries.count() <= 3 {
+        return false;
+    }
+    match countries.value_at(alloc, 3) {
+        Ok(own) => own.eq(&value),
+        Err(_) => false,
+    }
 }
 
 fn expect_values(alloc: Global, countries: &Dictionary, all: &Expectations) {
@@ -251,7 +255,7 @@ fn expect_values(alloc: Global, countries: &Dictionary, all: &Expectations) {
     all.equal(found, Some(2), "the id of a value");
     let missing = id_of(alloc, countries, "UK");
     all.expect(missing.is_none(), "no value of the column");
-    let is_last = is_fourth(countries, text(alloc, "US"));
+    let is_last = is_fourth(alloc, countries, text(alloc, "US"));
     all.expect(is_last, "the value of an id");
 }
 

@@ -38,15 +38,15 @@ use Rattle.command_model.proofs.MachineLemmas.{steps_over}
 use Rattle.command_model.proofs.RowsLemmas.{fitting_all, fitting_large, fitting_none, segment_missing}
 use Rattle.command_model.proofs.StoredLemmas.{reads_as, reads_then}
 
-told_each : (held : Option Files) (P Q : Files → Type 0) → ((files : Files) → P files → Q files) → IfSome held P → IfSome held Q
+pub told_each : (held : Option Files) (P Q : Files → Type 0) → ((files : Files) → P files → Q files) → IfSome held P → IfSome held Q
 told_each None P Q f h = tt
 told_each (Some files) P Q f h = f files h
 
-told_all : (held : Option Files) (P : Files → Type 0) → ((files : Files) → P files) → IfSome held P
+pub told_all : (held : Option Files) (P : Files → Type 0) → ((files : Files) → P files) → IfSome held P
 told_all None P f = tt
 told_all (Some files) P f = f files
 
-told_three : (held : Option Files) (P Q R S : Files → Type 0) → ((files : Files) → P files → Q files → R files → S files) → IfSome held P → IfSome held Q → IfSome held R → IfSome held S
+pub told_three : (held : Option Files) (P Q R S : Files → Type 0) → ((files : Files) → P files → Q files → R files → S files) → IfSome held P → IfSome held Q → IfSome held R → IfSome held S
 told_three None P Q R S f p q r = tt
 told_three (Some files) P Q R S f p q r = f files p q r
 
@@ -140,11 +140,11 @@ module _ (name : List ℕ) (a b d : Seen) (table : Table) (first : LooksFor HasT
 
 -- ---- refusals
 
-either_first : (x y : Bool) → x ≡ true → (x || y) ≡ true
+pub either_first : (x y : Bool) → x ≡ true → (x || y) ≡ true
 either_first true y e = refl
 either_first false y e = absurd cc
 
-either_second : (x y : Bool) → y ≡ true → (x || y) ≡ true
+pub either_second : (x y : Bool) → y ≡ true → (x || y) ≡ true
 either_second true y e = refl
 either_second false y e = e
 
@@ -175,12 +175,12 @@ apart (note.TooManyGroups most) e f = absurd cc
 apart (note.NotASegment name part) e f = absurd cc
 
 -- why the table of a store is refused, told of another line
-lacks_table : (name : List ℕ) (files : Files) → PlaceRefuses name files note.NoTable → Lacks (Some files) table_name
+pub lacks_table : (name : List ℕ) (files : Files) → PlaceRefuses name files note.NoTable → Lacks (Some files) table_name
 lacks_table name files (inl h) = h
 lacks_table name files (inr (inl t)) = let e = t.line_is in absurd cc
 lacks_table name files (inr (inr m)) = let e = m.line_is in absurd cc
 
-wrong_table : (name of part : List ℕ) (files : Files) → PlaceRefuses name files (note.NotASegment of part) → TableRefuses files (note.NotASegment of part)
+pub wrong_table : (name of part : List ℕ) (files : Files) → PlaceRefuses name files (note.NotASegment of part) → TableRefuses files (note.NotASegment of part)
 wrong_table name of part files (inl h) = h
 wrong_table name of part files (inr (inl t)) = let e = t.line_is in absurd cc
 wrong_table name of part files (inr (inr m)) = let e = m.line_is in absurd cc
@@ -188,12 +188,12 @@ wrong_table name of part files (inr (inr m)) = let e = m.line_is in absurd cc
 same_taken : (x y : List ℕ) → note.NameTaken x ≡ note.NameTaken y → x ≡ y
 same_taken x y e = cc
 
-taken_there : (name taken : List ℕ) (files : Files) → PlaceRefuses name files (note.NameTaken taken) → Has (Some files) (file_of taken)
+pub taken_there : (name taken : List ℕ) (files : Files) → PlaceRefuses name files (note.NameTaken taken) → Has (Some files) (file_of taken)
 taken_there name taken files (inl h) = absurd h
 taken_there name taken files (inr (inl t)) = subst (λ n. Has (Some files) (file_of n)) (sym (same_taken taken name t.line_is)) t.there
 taken_there name taken files (inr (inr m)) = let e = m.line_is in absurd cc
 
-full_there : (name : List ℕ) (limit : ℕ) (files : Files) → PlaceRefuses name files (note.TooLarge counted.Segments limit) → IsFull files
+pub full_there : (name : List ℕ) (limit : ℕ) (files : Files) → PlaceRefuses name files (note.TooLarge counted.Segments limit) → IsFull files
 full_there name limit files (inl h) = absurd h
 full_there name limit files (inr (inl t)) = let e = t.line_is in absurd cc
 full_there name limit files (inr (inr m)) = m.full

@@ -23,7 +23,7 @@ use Rattle.command_model.specs.Create.{Made, beside, json_bytes, json_in, new_ta
 use Rattle.command_model.specs.Gives.{Makes, StopsBy, StopsLook}
 use Rattle.command_model.specs.Profile.{Front, NoFile, create_refuses, texts_refuse}
 use Rattle.command_model.specs.Ran.{Acted, Caused, Counts, Creates, Ended, HasCause, IsAllowed, IsStepped, Looked, NoFaults, Over, Ran, WhereStands}
-use Rattle.command_model.specs.Step.{Answer, Refuses, Replies, step_of}
+use Rattle.command_model.specs.Step.{Answer, HasStep, Refuses, Replies}
 use Rattle.command_model.specs.Touched.{OnlyLooks, WritesThese, Reads, ReadsFront}
 use Rattle.outside.specs.Seen.{Seen}
 use Rattle.command_model.specs.World.{Devices, SameButThese}
@@ -236,7 +236,7 @@ module _ (schema settings : List ℕ) (inputs inputs_new depot looked depot_new 
 
   moved_acted : (answer : Answer) → Acted (Some (Create schema settings)) (Before looked) Now answer → Acted (Some (Create schema settings)) (Before depot) Now answer
   moved_acted answer acted = record {
-    step = subst (λ h. WhereStands inputs.held h (λ before files. IsStepped (step_of before (Some (Create schema settings)) files) answer depot_new.held)) looks.held acted.step;
+    step = subst (λ h. WhereStands inputs.held h (λ before files. HasStep before (Some (Create schema settings)) files (λ after. IsStepped after answer depot_new.held))) looks.held acted.step;
     over = subst (λ h. IfSome inputs.held (λ files. Over (Some (Create schema settings)) files h answer depot_new.held)) looks.held acted.over;
     allowed = moved_allowed answer acted.allowed;
   }

@@ -6,3 +6,4 @@ mod StopsLemmas
 pub mod StoredLemmas
 pub mod WritingLemmas
 pub mod CheckLemmas
+pub mod InputLemmas

@@ -1,5 +1,5 @@
 -- What a command does to stored files is its step on the state that they stand for.
-use Rattle.std.proofs.Common.{◌≡◌, ◌∙◌, ◌≤◌, ◌<◌, ◌&&◌, ◌++◌, inl, inr, ℕ, suc, Bool, true, false, List, [], ◌∷◌, length, get_or, take, option_map, nat_le, nat_lt, Option, Some, None, Result, Ok, Err, IfSome, IsSomeAnd, refl, sym, ap, subst, arith, cond}
+use Rattle.std.proofs.Common.{◌≡◌, ◌≢◌, ◌∙◌, ◌≤◌, ◌<◌, ◌&&◌, ◌++◌, inl, inr, ℕ, suc, Bool, true, false, List, [], ◌∷◌, length, get_or, take, option_map, nat_le, nat_lt, Option, Some, None, Result, Ok, Err, IfSome, IsSomeAnd, refl, sym, ap, subst, arith, cond}
 use Rattle.std.proofs.lemmas.Bool.Decides.{nat_tests}
 use Rattle.std.specs.Prelude.{flat_map, is_some, unwrap_or, map as each}
 use Rattle.std.specs.FinMap as map
@@ -36,7 +36,7 @@ use Rattle.segment_reads.proofs.NameLemmas.{names_live}
 use Rattle.segment_head.specs.Stored.{HasImage, live, names_of, stored_rows}
 use Rattle.query_executor.specs.Stated.{IsStated, stated, stated_by}
 use Rattle.table_store.specs.Accepted.{IsAccepted, IsNoTableFile}
-use Rattle.table_store.specs.Images.{IsNoStoredImage, IsStoredImage}
+use Rattle.table_store.specs.Images.{Found, IsFound, IsNoStoredImage, IsStoredImage}
 use Rattle.table_store.specs.Segments.{AreFirstNames, HasRoom, HasSegment, IsFull, LacksSegment, has_segment, most_segments}
 use Rattle.table_store.specs.Stands.{IsSegment, Stands, segment_file, segment_of}
 use Rattle.table_store.specs.State as state
@@ -48,22 +48,24 @@ use Rattle.table_store.proofs.CountLemmas.{names_count}
 use Rattle.table_store.proofs.DropLemmas.{drop_stands}
 use Rattle.table_store.proofs.ImageLemmas.{none_wrong, one_image}
 use Rattle.table_store.proofs.StandsLemmas.{create_stands, none_there, one_there, segment_stands, table_stands, table_there}
-use Rattle.command_model.specs.Build.{BuildRefuses, HasPlace, IsBuilt, new_rows, segment_rows, table_of as table_in, with_schema, with_settings as settled}
-use Rattle.command_words.specs.Command.{Build, Command, Create, Drop, Listing, Open, Scan, Ask, Verify}
+use Rattle.segment_file.specs.declared.part.Part.TheVariants as parts
+use Rattle.command_model.specs.Attach.{AttachRefuses, FitsCheck, IsAttached, IsUnlikeInput, LacksInput, attached_rows, file_rows}
+use Rattle.command_model.specs.Build.{AreMany, BuildRefuses, HasPlace, IsBuilt, IsTaken, new_rows, segment_rows, table_of as table_in, with_schema, with_settings as settled}
+use Rattle.command_words.specs.Command.{Attach, Build, Command, Create, Drop, Listing, Open, Scan, Ask, Verify}
 use Rattle.command_model.specs.Drop.{DropRefuses, IsDropped, IsMissing}
 use Rattle.command_model.specs.Create.{Made, beside, json_bytes, json_in, new_table, read_by, schema_in, settings_in, table_of, with_settings}
 use Rattle.command_model.proofs.StoredLemmas.{table_segments}
 use Rattle.command_model.specs.Queried.{HasNoReply, HasReply, IsFaultOf, IsQueried, IsWrongImage, QueryRefuses, all_rows, rows_in}
 use Rattle.command_words.specs.declared.about.About.{About}
 use Rattle.command_words.specs.declared.about.About.TheVariants.{Plans, Rows, RowsAndPlans}
-use Rattle.command_model.specs.Ran.{Builds, Drops, IsStepped, Lists, Over, Queries, TableIsThere, Verifies, WhereStands, files_after}
+use Rattle.command_model.specs.Ran.{Attaches, Builds, Drops, IsStepped, Lists, Over, Queries, TableIsThere, Verifies, WhereStands, files_after}
 use Rattle.command_model.specs.Verify.{IsUnlikeRows, IsVerified, VerifyRefuses, verified_text}
 use Rattle.command_model.specs.Stored.{HasRows, HasTableFile, IsListed, IsWrongSegment, SegmentsRefuse, count_in, list_text}
 use Rattle.command_words.specs.declared.note.Counted.TheVariants as counted
 use Rattle.command_words.specs.declared.note.Note.{Note}
 use Rattle.command_words.specs.declared.note.Note.TheVariants as note
 use Rattle.command_words.specs.declared.note.Note.TheVariants.{BadSchema, BadSettings}
-use Rattle.command_model.specs.Step.{After, Answer, Refuses, Replies, built, create_answer, created, dropped, has_table, list_answer, query_answer, rows_answer, sql_answered, step_of, verified, verify_answer, with_rows, with_table, without_segment}
+use Rattle.command_model.specs.Step.{After, Answer, HasStep, Refuses, Replies, attached, attached_to, built, create_answer, created, dropped, has_table, list_answer, query_answer, rows_answer, sql_answered, verified, verify_answer, with_attached, with_rows, with_table, without_segment}
 
 -- ---- the texts that were made are accepted
 
@@ -515,21 +517,131 @@ verify_step stored name (Refuses line) NoTable stands h = none_verified stored s
 verify_step stored name (Replies text) (HasTable texts segments) stands v = verified_right stored texts segments stands name text v
 verify_step stored name (Refuses line) (HasTable texts segments) stands h = some_verified stored texts segments stands name line h
 
+-- ---- `attach`
+
+same_bytes : (x y : List ℕ) → Some x ≡ Some y → x ≡ y
+same_bytes x y e = cc
+
+same_tables : (x y : Table) → Some x ≡ Some y → x ≡ y
+same_tables x y e = cc
+
+-- what is said to be found where no file is checked
+abbrev nothing : Found
+nothing = Err parts.Head
+
+taken_not_free : (o : Option Segment) → is_some o ≡ true → o ≢ None
+taken_not_free None some e = absurd cc
+taken_not_free (Some segment) some e = absurd cc
+
+there_not_missing : (o : Option (List ℕ)) (bytes : List ℕ) → o ≡ None → o ≢ Some bytes
+there_not_missing None bytes none e = absurd cc
+there_not_missing (Some other) bytes none e = absurd cc
+
+module _ (stored : Files) (texts : state.Texts) (segments : Segments) (stands : Stands stored (HasTable texts segments)) (name file : List ℕ) (inputs : Files) where
+  abbrev Attached : Found → After
+  Attached found = attached (HasTable texts segments) name file inputs found
+
+  -- the step by what is found, where something is asked
+  abbrev Attaching : Answer → Option Files → Type 0
+  Attaching answer new = (found : Found) × FitsCheck (HasTable texts segments) name file inputs found × IsStepped (Attached found) answer new
+
+  stored_table : (table : Table) → HasTableFile stored table → IsAccepted texts table
+  stored_table table is = table_stands stored texts segments table stands is
+
+  -- what is left by the rows for the new segment
+  by_found : (table : Table) (found : Found) (rows : Result (List (List Value)) Note) → HasTableFile stored table → attached_rows table segments name file inputs found ≡ rows → Attached found ≡ with_attached texts segments name table rows
+  by_found table found rows is are = ap (attached_to texts segments name file inputs found) (read_as texts table (stored_table table is)) ∙ ap (with_attached texts segments name table) are
+
+  left_so : (table : Table) (found : Found) (line : Note) (new : Option Files) → Attached found ≡ with_attached texts segments name table (Err line) → new ≡ Some stored → IsStepped (Attached found) (Refuses line) new
+  left_so table found line new is same =
+      subst (λ after. IsStepped after (Refuses line) new) (sym is) (record { answers = refl; stands = stays stored (HasTable texts segments) new stands same })
+
+  -- a name that is taken
+  attach_taken : (line : Note) (new : Option Files) → IsTaken stored name line → new ≡ Some stored → Attaching (Refuses line) new
+  attach_taken line new t same =
+      let there : is_some (map.get segments name) ≡ true = segment_taken stored texts segments stands name t.there in
+      let rows : attached_rows t.table segments name file inputs nothing ≡ Err line = rw there (ap Err (sym t.line_is)) in
+      (nothing, λ table bytes asks. absurd (taken_not_free (map.get segments name) there asks.free), left_so t.table nothing line new (by_found t.table nothing (Err line) t.table_is rows) same)
+
+  -- as many segments as there may be
+  attach_many : (line : Note) (new : Option Files) → AreMany stored name line → new ≡ Some stored → Attaching (Refuses line) new
+  attach_many line new m same =
+      let full : most_segments ≤ map.len segments = segments_full stored texts segments stands m.full in
+      let free : is_some (map.get segments name) ≡ false = ap is_some (segment_lacks stored texts segments stands name m.free) in
+      let test : nat_le 512 (map.len segments) ≡ true = as_many (map.len segments) full in
+      let rows : attached_rows m.table segments name file inputs nothing ≡ Err line = rw free (rw test (ap Err (sym m.line_is))) in
+      (nothing, λ table bytes asks. absurd (omega (arith, asks.room, full)), left_so m.table nothing line new (by_found m.table nothing (Err line) m.table_is rows) same)
+
+  -- a place, and the file
+  with_place : (table : Table) (found : Found) (bytes : Option (List ℕ)) → HasPlace stored name table → map.get inputs file ≡ bytes → attached_rows table segments name file inputs found ≡ file_rows table name file bytes found
+  with_place table found bytes place is =
+      let free : is_some (map.get segments name) ≡ false = ap is_some (segment_lacks stored texts segments stands name place.free) in
+      let test : nat_le 512 (map.len segments) ≡ false = fewer_still (map.len segments) (segments_fewer stored texts segments stands place.room) in
+      rw free (rw test (ap (λ b. file_rows table name file b found) is))
+
+  attach_missing : (line : Note) (new : Option Files) → LacksInput inputs stored name file line → new ≡ Some stored → Attaching (Refuses line) new
+  attach_missing line new l same =
+      let rows : attached_rows l.table segments name file inputs nothing ≡ Err line = with_place l.table nothing None l.place l.missing ∙ ap Err (sym l.line_is) in
+      (nothing, λ table bytes asks. absurd (there_not_missing (map.get inputs file) bytes l.missing asks.bytes_are), left_so l.table nothing line new (by_found l.table nothing (Err line) l.place.table_is rows) same)
+
+  -- what was found of the file is what the step asks for
+  fits_so : (table : Table) (bytes : List ℕ) (found : Found) → HasTableFile stored table → map.get inputs file ≡ Some bytes → IsFound table name bytes found → FitsCheck (HasTable texts segments) name file inputs found
+  fits_so table bytes found is are finds = λ asked those asks.
+      let tables : table ≡ asked = same_tables table asked (sym (read_as texts table (stored_table table is)) ∙ asks.table_is) in
+      let same : bytes ≡ those = same_bytes bytes those (sym are ∙ asks.bytes_are) in
+      subst (λ t. IsFound t name those found) tables (subst (λ b. IsFound table name b found) same finds)
+
+  attach_unlike : (line : Note) (new : Option Files) → IsUnlikeInput inputs stored name file line → new ≡ Some stored → Attaching (Refuses line) new
+  attach_unlike line new u same =
+      let rows : attached_rows u.table segments name file inputs (Err u.wrong) ≡ Err line = with_place u.table (Err u.wrong) (Some u.bytes) u.place u.bytes_are ∙ ap Err (sym u.line_is) in
+      (Err u.wrong, fits_so u.table u.bytes (Err u.wrong) u.place.table_is u.bytes_are u.none, left_so u.table (Err u.wrong) line new (by_found u.table (Err u.wrong) (Err line) u.place.table_is rows) same)
+
+  attach_refused : (line : Note) (new : Option Files) → AttachRefuses name file inputs stored line → new ≡ Some stored → Attaching (Refuses line) new
+  attach_refused line new (inl (inl h)) same = some_refused stored texts segments stands line (table_segments stored line h)
+  attach_refused line new (inl (inr (inl t))) same = attach_taken line new t same
+  attach_refused line new (inl (inr (inr m))) same = attach_many line new m same
+  attach_refused line new (inr (inl l)) same = attach_missing line new l same
+  attach_refused line new (inr (inr u)) same = attach_unlike line new u same
+
+  attach_done : (text : List ℕ) (new : Option Files) → IsAttached inputs stored name file text new → Attaching (Replies text) new
+  attach_done text new a =
+      let stands_so = segment_put stored texts segments stands a.table name a.rows (stored_table a.table a.place.table_is) a.named a.is_image.can a.place.free a.place.room in
+      let rows : attached_rows a.table segments name file inputs (Ok a.rows) ≡ Ok a.rows = with_place a.table (Ok a.rows) (Some a.bytes) a.place a.bytes_are in
+      let is : Attached (Ok a.rows) ≡ with_attached texts segments name a.table (Ok a.rows) = by_found a.table (Ok a.rows) (Ok a.rows) a.place.table_is rows in
+      let stepped : IsStepped (with_attached texts segments name a.table (Ok a.rows)) (Replies text) new =
+      record { answers = ap Replies a.text_is; stands = subst (λ n. IsSomeAnd n (λ files. Stands files (HasTable texts (map.insert segments name (segment_of a.table a.rows))))) (sym a.leaves) stands_so } in
+      (Ok a.rows, fits_so a.table a.bytes (Ok a.rows) a.place.table_is a.bytes_are a.is_image, subst (λ after. IsStepped after (Replies text) new) (sym is) stepped)
+
+none_attached : (stored : Files) → Stands stored NoTable → (name file : List ℕ) (inputs : Files) (line : Note) → AttachRefuses name file inputs stored line → Refuses line ≡ Refuses note.NoTable
+none_attached stored stands name file inputs line (inl (inl h)) = none_refused stored stands line (table_segments stored line h)
+none_attached stored stands name file inputs line (inl (inr (inl t))) = let (bytes, got, is) = t.table_is in none_there stored stands (bytes, got)
+none_attached stored stands name file inputs line (inl (inr (inr m))) = let (bytes, got, is) = m.table_is in none_there stored stands (bytes, got)
+none_attached stored stands name file inputs line (inr (inl l)) = let (bytes, got, is) = l.place.table_is in none_there stored stands (bytes, got)
+none_attached stored stands name file inputs line (inr (inr u)) = let (bytes, got, is) = u.place.table_is in none_there stored stands (bytes, got)
+
+attach_step : (stored : Files) (name file : List ℕ) (inputs : Files) (answer : Answer) (new : Option Files) (before : State) → Stands stored before → Attaches name file inputs stored answer new
+    → HasStep before (Some (Attach name file)) inputs (λ after. IsStepped after answer new)
+attach_step stored name file inputs (Replies text) new NoTable stands a = let (bytes, got, is) = a.place.table_is in none_there stored stands (bytes, got)
+attach_step stored name file inputs (Refuses line) new NoTable stands (h, same) = (nothing, tt, record { answers = none_attached stored stands name file inputs line h; stands = stays stored NoTable new stands same })
+attach_step stored name file inputs (Replies text) new (HasTable texts segments) stands a = attach_done stored texts segments stands name file inputs text new a
+attach_step stored name file inputs (Refuses line) new (HasTable texts segments) stands (h, same) = attach_refused stored texts segments stands name file inputs line new h same
+
 -- what is done over any store is the step where it stands for a state
-over_step : (command : Option Command) (inputs stored : Files) (answer : Answer) (new : Option Files) (before : State) → Stands stored before → Over command inputs (Some stored) answer new → IsStepped (step_of before command inputs) answer new
-over_step None inputs stored answer new before stands (answers, same) = record { answers = answers; stands = stays stored before new stands same }
-over_step (Some (Scan file sql)) inputs stored answer new before stands (answers, same) = record { answers = answers; stands = stays stored before new stands same }
+over_step : (command : Option Command) (inputs stored : Files) (answer : Answer) (new : Option Files) (before : State) → Stands stored before → Over command inputs (Some stored) answer new → HasStep before command inputs (λ after. IsStepped after answer new)
+over_step None inputs stored answer new before stands (answers, same) = (nothing, tt, record { answers = answers; stands = stays stored before new stands same })
+over_step (Some (Scan file sql)) inputs stored answer new before stands (answers, same) = (nothing, tt, record { answers = answers; stands = stays stored before new stands same })
 over_step (Some (Create schema settings)) inputs stored answer new before stands over =
-    by_table (new_table schema settings inputs) stored answer new before over.there (accepted schema settings inputs) stands over.known over.answers over.leaves
-over_step (Some (Build name csv)) inputs stored answer new before stands builds = build_step stored name csv inputs answer new before stands builds
-over_step (Some (Drop name)) inputs stored answer new before stands drops = drop_step stored name answer new before stands drops
-over_step (Some (Verify name)) inputs stored answer new before stands (verifies, same) = record { answers = verify_step stored name answer before stands verifies; stands = stays stored before new stands same }
-over_step (Some Listing) inputs stored answer new before stands (lists, same) = record { answers = list_step stored answer before stands lists; stands = stays stored before new stands same }
-over_step (Some (Ask about sql)) inputs stored answer new before stands (queries, same) = record { answers = query_step stored about sql answer before stands queries; stands = stays stored before new stands same }
-over_step (Some (Open file)) inputs stored answer new before stands (answers, same) = record { answers = answers; stands = stays stored before new stands same }
+    (nothing, tt, by_table (new_table schema settings inputs) stored answer new before over.there (accepted schema settings inputs) stands over.known over.answers over.leaves)
+over_step (Some (Build name csv)) inputs stored answer new before stands builds = (nothing, tt, build_step stored name csv inputs answer new before stands builds)
+over_step (Some (Attach name file)) inputs stored answer new before stands attaches = attach_step stored name file inputs answer new before stands attaches
+over_step (Some (Drop name)) inputs stored answer new before stands drops = (nothing, tt, drop_step stored name answer new before stands drops)
+over_step (Some (Verify name)) inputs stored answer new before stands (verifies, same) = (nothing, tt, record { answers = verify_step stored name answer before stands verifies; stands = stays stored before new stands same })
+over_step (Some Listing) inputs stored answer new before stands (lists, same) = (nothing, tt, record { answers = list_step stored answer before stands lists; stands = stays stored before new stands same })
+over_step (Some (Ask about sql)) inputs stored answer new before stands (queries, same) = (nothing, tt, record { answers = query_step stored about sql answer before stands queries; stands = stays stored before new stands same })
+over_step (Some (Open file)) inputs stored answer new before stands (answers, same) = (nothing, tt, record { answers = answers; stands = stays stored before new stands same })
 
 pub steps_over : (command : Option Command) (inputs stored : Option Files) (answer : Answer) (new : Option Files) → IfSome inputs (λ files. Over command files stored answer new)
-    → WhereStands inputs stored (λ before files. IsStepped (step_of before command files) answer new)
+    → WhereStands inputs stored (λ before files. HasStep before command files (λ after. IsStepped after answer new))
 steps_over command None stored answer new over = tt
 steps_over command (Some files) None answer new over = tt
 steps_over command (Some files) (Some kept) answer new over = λ before stands. over_step command files kept answer new before stands over

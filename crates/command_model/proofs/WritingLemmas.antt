@@ -5,23 +5,25 @@ use Rattle.std.specs.Str.{bytes_eq}
 use Rattle.outside.specs.Files.{Files}
 use Rattle.outside.specs.Seen.{Seen}
 use Rattle.table_store.specs.State.{State}
-use Rattle.command_words.specs.Command.{Ask, Build, Command, Create, Drop, Listing, Open, Scan, Verify, asks_write, by_verb, command_of, may_write, writes}
+use Rattle.command_words.specs.Command.{Attach, Ask, Build, Command, Create, Drop, Listing, Open, Scan, Verify, asks_write, by_verb, command_of, may_write, writes}
 use Rattle.command_model.specs.Profile.{profile}
+use Rattle.table_store.specs.Images.{Found}
 use Rattle.command_model.specs.Step.{step_of}
 use Rattle.command_model.specs.Touched.{Keeps}
 use Rattle.command_model.specs.Writing.{LeavesDepot, LeavesState, Unwritten}
 
 -- the step of a command that may not write leaves the state as it is
-step_leaves : (state : State) (command : Option Command) (inputs : Files) → writes command ≡ false → (step_of state command inputs).state ≡ state
-step_leaves state None inputs quiet = refl
-step_leaves state (Some (Scan file sql)) inputs quiet = refl
-step_leaves state (Some (Create schema settings)) inputs quiet = cc
-step_leaves state (Some (Build name csv)) inputs quiet = cc
-step_leaves state (Some (Drop name)) inputs quiet = cc
-step_leaves state (Some (Verify name)) inputs quiet = refl
-step_leaves state (Some Listing) inputs quiet = refl
-step_leaves state (Some (Ask about sql)) inputs quiet = refl
-step_leaves state (Some (Open file)) inputs quiet = refl
+step_leaves : (state : State) (command : Option Command) (inputs : Files) (found : Found) → writes command ≡ false → (step_of state command inputs found).state ≡ state
+step_leaves state None inputs found quiet = refl
+step_leaves state (Some (Scan file sql)) inputs found quiet = refl
+step_leaves state (Some (Create schema settings)) inputs found quiet = cc
+step_leaves state (Some (Build name csv)) inputs found quiet = cc
+step_leaves state (Some (Attach name file)) inputs found quiet = cc
+step_leaves state (Some (Drop name)) inputs found quiet = cc
+step_leaves state (Some (Verify name)) inputs found quiet = refl
+step_leaves state (Some Listing) inputs found quiet = refl
+step_leaves state (Some (Ask about sql)) inputs found quiet = refl
+step_leaves state (Some (Open file)) inputs found quiet = refl
 
 -- words of which no write is said spell no command that writes
 by_test : (test : Bool) (words : List (List ℕ)) (file : List ℕ) → asks_write (by_verb test words file) ≡ false → writes (command_of words) ≡ false
@@ -35,7 +37,7 @@ quiet_words (verb ∷ file ∷ []) quiet = by_test (bytes_eq verb (codes "script
 quiet_words (verb ∷ file ∷ more ∷ rest) quiet = quiet
 
 pub leaves_state : LeavesState
-leaves_state state words inputs quiet = step_leaves state (command_of words) inputs (quiet_words words quiet)
+leaves_state state words inputs found quiet = step_leaves state (command_of words) inputs found (quiet_words words quiet)
 
 -- nor is its row one that writes
 keeps_depot : (command : Option Command) (old new : Seen) → writes command ≡ false → Keeps (profile command).store old new → Unwritten old new
@@ -43,6 +45,7 @@ keeps_depot None old new quiet kept = record { held = ap (λ s. s.held) kept; pa
 keeps_depot (Some (Scan file sql)) old new quiet kept = record { held = ap (λ s. s.held) kept; parts = ap (λ s. s.parts) kept; writes = ap (λ s. s.write_faults) kept }
 keeps_depot (Some (Create schema settings)) old new quiet kept = cc
 keeps_depot (Some (Build name csv)) old new quiet kept = cc
+keeps_depot (Some (Attach name file)) old new quiet kept = cc
 keeps_depot (Some (Drop name)) old new quiet kept = cc
 keeps_depot (Some (Verify name)) old new quiet kept = record { held = kept.held; parts = kept.parts; writes = kept.writes }
 keeps_depot (Some Listing) old new quiet kept = record { held = kept.held; parts = kept.parts; writes = kept.writes }

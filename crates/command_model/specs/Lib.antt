@@ -1,10 +1,12 @@
 pub mod Writing
+pub mod Attach
 pub mod Build
 pub mod Columns
 pub mod Consulted
 pub mod Create
 pub mod Drop
 pub mod Gives
+pub mod InputImages
 pub mod Places
 pub mod Profile
 pub mod Queried

@@ -5,7 +5,7 @@ use Rattle.csv_ingest.specs.Blocks as csv
 use Rattle.segment_file.specs.Names.{file_of}
 use Rattle.segment_file.specs.Trees as trees
 use Rattle.table_store.specs.TableFile.{table_name, text_limit}
-use Rattle.command_words.specs.Command.{Build, Command, Create, Drop, Listing, Open, Scan, Ask, Verify}
+use Rattle.command_words.specs.Command.{Attach, Build, Command, Create, Drop, Listing, Open, Scan, Ask, Verify}
 use Rattle.command_words.specs.declared.about.About.{About}
 use Rattle.command_words.specs.declared.about.About.TheVariants.{Plans, Rows, RowsAndPlans}
 use Rattle.command_words.specs.declared.note.Counted.{Counted}
@@ -131,6 +131,16 @@ place_refuses other = false
 abbrev pub build_refuses : Note → Bool
 build_refuses line = place_refuses line || rows_refuse line
 
+-- which refusals of `attach` come of its file
+abbrev pub input_refuses : Note → Bool
+input_refuses (note.NoInput file) = true
+input_refuses (note.NotASegment name part) = true
+input_refuses other = false
+
+-- the refusals of `attach`
+abbrev pub attach_refuses : Note → Bool
+attach_refuses line = place_refuses line || input_refuses line
+
 -- the refusals of a command that asks for one segment
 abbrev pub segment_refuses : Note → Bool
 segment_refuses (note.NoSegment name) = true
@@ -192,6 +202,13 @@ profile (Some (Build name csv)) =
       store = Writes TableFile (file_of name ∷ []);
       replies = true;
       refuses = build_refuses;
+    }
+profile (Some (Attach name file)) =
+    record {
+      files = (file, AnyPlace) ∷ [];
+      store = Writes TableFile (file_of name ∷ []);
+      replies = true;
+      refuses = attach_refuses;
     }
 profile (Some (Drop name)) =
     record {

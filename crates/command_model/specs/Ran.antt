@@ -2,19 +2,21 @@
 use Rattle.std.specs.Prelude.{◌≡◌, ◌⊎◌, ℕ, Bool, true, false, List, [], Option, Some, None, Result, Ok, Err, IfSome, IsSomeAnd}
 use Rattle.std.specs.FinMap as map
 use Rattle.outside.specs.Counts.{Rose}
-use Rattle.outside.specs.Files.{Files, Has, Lacks, with_file}
+use Rattle.outside.specs.Files.{Files, Has, Lacks, OfFile, with_file}
+use Rattle.table_store.specs.Accepted.{IsNoTableFile}
 use Rattle.table_store.specs.State.{State}
 use Rattle.table_store.specs.Stands.{Stands}
 use Rattle.table_store.specs.Segments.{HasSegment, IsFull, LacksSegment, most_segments}
 use Rattle.table_store.specs.TableFile.{table_file, table_name, text_limit}
+use Rattle.command_model.specs.Attach.{AttachRefuses, IsAttached, IsUnlikeInput}
 use Rattle.command_model.specs.Build.{BuildRefuses, IsBuilt}
-use Rattle.command_words.specs.Command.{Build, Command, Create, Drop, Listing, Open, Scan, Ask, Verify}
+use Rattle.command_words.specs.Command.{Attach, Build, Command, Create, Drop, Listing, Open, Scan, Ask, Verify}
 use Rattle.command_model.specs.Consulted.{AtMostRead, Consulted}
 use Rattle.command_model.specs.Create.{Made, new_table}
 use Rattle.command_model.specs.Drop.{DropRefuses, IsDropped}
 use Rattle.command_model.specs.Profile.{may_read, place_refuses, profile}
 use Rattle.command_model.specs.Queried.{IsQueried, IsWrongImage, QueryRefuses}
-use Rattle.command_model.specs.Step.{After, Answer, Refuses, Replies, create_answer, scan_answer, script_answer, step_of}
+use Rattle.command_model.specs.Step.{After, Answer, HasStep, Refuses, Replies, create_answer, scan_answer, script_answer}
 use Rattle.command_model.specs.Stored.{IsListed, IsWrongSegment, IsWrongTable, SegmentsRefuse}
 use Rattle.command_model.specs.Touched.{ReadsFront, Touched}
 use Rattle.command_model.specs.Verify.{IsUnlikeRows, IsVerified, VerifyRefuses}
@@ -76,6 +78,12 @@ Builds name csv inputs files (Replies text) new = IsBuilt inputs files name csv 
 Builds name csv inputs files (Refuses line) new = BuildRefuses name csv inputs files line
     × (new ≡ Some files)
 
+-- what `attach` does over any published files: a segment's file is put among them, or none
+abbrev pub Attaches : List ℕ → List ℕ → Files → Files → Answer → Option Files → Type 0
+Attaches name file inputs files (Replies text) new = IsAttached inputs files name file text new
+Attaches name file inputs files (Refuses line) new = AttachRefuses name file inputs files line
+    × (new ≡ Some files)
+
 -- what `drop` does over any published files: a segment's file is taken away from them, or none
 abbrev pub Drops : List ℕ → Files → Answer → Option Files → Type 0
 Drops name files (Replies text) new = IsDropped files name text new
@@ -95,6 +103,8 @@ Over (Some (Create schema settings)) inputs old answer new = Creates
     (new_table schema settings inputs) old answer new
 Over (Some (Build name csv)) inputs old answer new = IfSome old
     (λ files. Builds name csv inputs files answer new)
+Over (Some (Attach name file)) inputs old answer new = IfSome old
+    (λ files. Attaches name file inputs files answer new)
 Over (Some (Drop name)) inputs old answer new = IfSome old (λ files. Drops name files answer new)
 Over (Some (Verify name)) inputs old answer new = IfSome old (λ files. Verifies name files answer)
     × (new ≡ old)
@@ -116,6 +126,7 @@ Finds (Some (Create schema settings)) inputs stored line = new_table schema sett
     ≡ Err line
 Finds (Some (Build name csv)) inputs stored line = IfSome stored
     (λ files. BuildRefuses name csv inputs files line)
+Finds (Some (Attach name file)) inputs stored line = ⊥
 Finds (Some (Drop name)) inputs stored line = ⊥
 Finds (Some (Verify name)) inputs stored line = ⊥
 Finds (Some Listing) inputs stored line = ⊥
@@ -125,19 +136,23 @@ Finds (Some (Open file)) inputs stored line = script_answer file (map.get inputs
     ≡ Refuses line
 
 -- a published file is not what it stands for; only `verify`, `list`, `query`, `explain` and `stats`
--- look at those of segments
-abbrev pub IsWrong : Option Command → Files → List ℕ → List ℕ → Type 0
-IsWrong (Some (Verify asked)) files name part = IsWrongTable files name part
+-- look at those of segments. For `attach` it may be the input file that is no segment's
+abbrev pub IsWrong : Option Command → Option Files → Files → List ℕ → List ℕ → Type 0
+IsWrong (Some (Attach asked file)) inputs files name part = IsWrongTable files name part
+    ⊎ IfSome inputs (λ given.
+    IsUnlikeInput given files asked file (note.NotASegment name part))
+IsWrong (Some (Verify asked)) inputs files name part = IsWrongTable files name part
     ⊎ IsUnlikeRows files asked (note.NotASegment name part)
-IsWrong (Some Listing) files name part = IsWrongTable files name part
+IsWrong (Some Listing) inputs files name part = IsWrongTable files name part
     ⊎ IsWrongSegment files name part
-IsWrong (Some (Ask about sql)) files name part = IsWrongTable files name part
+IsWrong (Some (Ask about sql)) inputs files name part = IsWrongTable files name part
     ⊎ IsWrongImage about sql files name part
-IsWrong command files name part = IsWrongTable files name part
+IsWrong command inputs files name part = IsWrongTable files name part
 
 -- a name is the one of the segment that a command makes, drops or looks at
 abbrev pub IsNameIn : Option Command → List ℕ → Type 0
 IsNameIn (Some (Build name csv)) other = other ≡ name
+IsNameIn (Some (Attach name file)) other = other ≡ name
 IsNameIn (Some (Drop name)) other = other ≡ name
 IsNameIn (Some (Verify name)) other = other ≡ name
 IsNameIn command other = ⊥
@@ -154,18 +169,22 @@ Caused command inputs stored (note.TooLarge counted.Segments limit) = (limit ≡
     × IfSome stored IsFull
 Caused command inputs stored (note.NoInput file) = Lacks inputs file
 Caused command inputs stored (note.NotASegment name part) = IfSome stored
-    (λ files. IsWrong command files name part)
+    (λ files. IsWrong command inputs files name part)
 Caused command inputs stored line = IfSome inputs (λ files. Finds command files stored line)
 
 -- how far the inputs were looked at where a command is refused so: by `create` at none where there
--- is a table, and at the schema alone where it is refused; by `build` at none where the store has
--- no place
+-- is a table, and at the schema alone where it is refused; by `build` and `attach` at none where
+-- the store has no place
 abbrev pub Looked : Option Command → Note → Devices → Devices → Type 0
 Looked (Some (Create schema settings)) note.TableExists old new = IfSome old.depot.held
     (λ _. new.inputs ≡ old.inputs)
 Looked (Some (Create schema settings))
     (note.BadSchema wrong path) old new = ReadsFront schema text_limit old.inputs new.inputs
 Looked (Some (Build name csv)) line old new = place_refuses line ≡ true → new.inputs ≡ old.inputs
+Looked (Some (Attach name file)) (note.NotASegment of part) old new = IfSome old.depot.held
+    (λ files. OfFile (Some files) table_name IsNoTableFile → new.inputs ≡ old.inputs)
+Looked (Some (Attach name file)) line old new = place_refuses line ≡ true
+    → new.inputs ≡ old.inputs
 Looked command line old new = Unit {0}
 
 -- an answer that the command's row has; a reply reads what it may, and a refusal has its cause, and
@@ -180,7 +199,7 @@ IsAllowed command old new (Refuses line) = ((profile command).refuses line ≡ t
 -- a command came to an answer, and left the store as it does with that answer
 pub record Acted (command : Option Command) (old new : Devices) (answer : Answer) : Type 0 where
   pub step : WhereStands old.inputs.held old.depot.held (λ state files.
-      IsStepped (step_of state command files) answer new.depot.held)
+      HasStep state command files (λ after. IsStepped after answer new.depot.held))
   pub over : IfSome old.inputs.held
       (λ files. Over command files old.depot.held answer new.depot.held)
   pub allowed : IsAllowed command old new answer

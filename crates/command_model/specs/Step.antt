@@ -8,8 +8,10 @@ use Rattle.table_schema.specs.declared.table.Table.{Table}
 use Rattle.table_store.specs.Stands.{segment_of}
 use Rattle.table_store.specs.State.{Segments, State, Texts, NoTable, HasTable}
 use Rattle.table_store.specs.TableFile.{table_name}
+use Rattle.table_store.specs.Images.{Found}
+use Rattle.command_model.specs.Attach.{FitsCheck, attached_rows, attached_text}
 use Rattle.command_model.specs.Build.{built_text, new_rows, table_of}
-use Rattle.command_words.specs.Command.{Build, Command, Create, Drop, Listing, Open, Scan, Ask, Verify, command_of}
+use Rattle.command_words.specs.Command.{Attach, Build, Command, Create, Drop, Listing, Open, Scan, Ask, Verify, command_of}
 use Rattle.command_model.specs.Create.{Made, new_table}
 use Rattle.command_model.specs.Drop.{dropped_text}
 use Rattle.sql_reply.specs.SqlReply.{SqlReply}
@@ -155,6 +157,39 @@ built NoTable name csv inputs = record { answer = Refuses note.NoTable; state = 
 built (HasTable texts segments) name csv inputs = with_table texts segments name csv inputs
     (table_of texts)
 
+-- the store after `attach`, by the rows for its segment
+abbrev pub with_attached : Texts → Segments → List ℕ → Table → Result (List (List Value)) Note
+    → After
+with_attached texts segments name table (Err line) = record {
+  answer = Refuses line;
+  state = HasTable texts segments;
+}
+with_attached texts segments name table (Ok rows) =
+    record {
+      answer = Replies (attached_text name (length rows));
+      state = HasTable texts
+          (map.insert segments name (segment_of table rows));
+    }
+
+-- the same by the table of its texts; the texts of a store always have one
+abbrev pub attached_to : Texts → Segments → List ℕ → List ℕ → Files → Found → Option Table → After
+attached_to texts segments name file inputs found None = record {
+  answer = Refuses
+      (note.NotASegment table_name (codes "table"));
+  state = HasTable texts segments;
+}
+attached_to texts segments name file inputs found (Some table) = with_attached texts segments name
+    table (attached_rows table segments name file inputs found)
+
+-- what `attach` leaves, by what the check of its file finds
+abbrev pub attached : State → List ℕ → List ℕ → Files → Found → After
+attached NoTable name file inputs found = record {
+  answer = Refuses note.NoTable;
+  state = NoTable;
+}
+attached (HasTable texts segments) name file inputs found = attached_to texts segments name file
+    inputs found (table_of texts)
+
 -- what `drop` leaves of a table, by whether there is a segment of the name
 abbrev pub without_segment : Bool → Texts → Segments → List ℕ → After
 without_segment true texts segments name = record {
@@ -172,35 +207,48 @@ dropped NoTable name = record { answer = Refuses note.NoTable; state = NoTable }
 dropped (HasTable texts segments) name = without_segment (is_some (map.get segments name)) texts
     segments name
 
--- what a command does to a store, over these input files
-abbrev pub step_of : State → Option Command → Files → After
-step_of state None inputs = record { answer = Refuses note.BadWords; state = state }
-step_of state (Some (Scan file sql)) inputs = record {
+-- what a command does to a store, over these input files; for `attach` by what the check of its
+-- file finds, of which the others take no notice
+abbrev pub step_of : State → Option Command → Files → Found → After
+step_of state None inputs found = record { answer = Refuses note.BadWords; state = state }
+step_of state (Some (Scan file sql)) inputs found = record {
   answer = scan_answer file sql
       (map.get inputs file);
   state = state;
 }
-step_of state (Some (Create schema settings)) inputs =
+step_of state (Some (Create schema settings)) inputs found =
     record {
       answer = create_answer (has_table state) (new_table schema settings inputs);
       state = created state (new_table schema settings inputs);
     }
-step_of state (Some (Build name csv)) inputs = built state name csv inputs
-step_of state (Some (Drop name)) inputs = dropped state name
-step_of state (Some (Verify name)) inputs = record {
+step_of state (Some (Build name csv)) inputs found = built state name csv inputs
+step_of state (Some (Attach name file)) inputs found = attached state name file inputs found
+step_of state (Some (Drop name)) inputs found = dropped state name
+step_of state (Some (Verify name)) inputs found = record {
   answer = verify_answer state name;
   state = state;
 }
-step_of state (Some Listing) inputs = record { answer = list_answer state; state = state }
-step_of state (Some (Ask about sql)) inputs = record {
+step_of state (Some Listing) inputs found = record { answer = list_answer state; state = state }
+step_of state (Some (Ask about sql)) inputs found = record {
   answer = query_answer about state sql;
   state = state;
 }
-step_of state (Some (Open file)) inputs = record {
+step_of state (Some (Open file)) inputs found = record {
   answer = script_answer file (map.get inputs file);
   state = state;
 }
 
 -- what these words do
-abbrev pub step : State → List (List ℕ) → Files → After
-step state words inputs = step_of state (command_of words) inputs
+abbrev pub step : State → List (List ℕ) → Files → Found → After
+step state words inputs found = step_of state (command_of words) inputs found
+
+-- where a command checks a file, this is found
+abbrev pub IsFinding : Option Command → State → Files → Found → Type 0
+IsFinding (Some (Attach name file)) state inputs found = FitsCheck state name file inputs found
+IsFinding command state inputs found = Unit {0}
+
+-- the step of a command has P: that by what it finds, where it checks a file, which is one thing
+-- alone; and for any other command just its step
+abbrev pub HasStep : State → Option Command → Files → (After → Type 0) → Type 0
+HasStep state command inputs P = (found : Found) × IsFinding command state inputs found
+    × P (step_of state command inputs found)

@@ -2,6 +2,7 @@
 use Rattle.std.specs.Prelude.{◌≡◌, ℕ, List, false}
 use Rattle.outside.specs.Files.{Files}
 use Rattle.outside.specs.Seen.{Seen}
+use Rattle.table_store.specs.Images.{Found}
 use Rattle.table_store.specs.State.{State}
 use Rattle.command_words.specs.Command.{command_of, may_write}
 use Rattle.command_model.specs.Step.{step}
@@ -10,8 +11,8 @@ use Rattle.command_model.specs.World.{Devices}
 
 -- the step of such words leaves each state as it is
 abbrev pub LeavesState : Type 0
-LeavesState = (state : State) (words : List (List ℕ)) (inputs : Files) → may_write words ≡ false
-    → (step state words inputs).state ≡ state
+LeavesState = (state : State) (words : List (List ℕ)) (inputs : Files) (found : Found)
+    → may_write words ≡ false → (step state words inputs found).state ≡ state
 
 -- a depot holds what it held, and no call that writes has failed
 pub record Unwritten (old new : Seen) : Type 0 where

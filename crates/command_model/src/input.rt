@@ -38,8 +38,8 @@ pub fn read_input<I: Shelf>(
     }
 }
 
-// The name of a file, to be kept.
-fn name_of(alloc: Global, file: &str) -> Result<Bytes, AllocError>
+/// The name of a file, to be kept.
+pub(crate) fn name_of(alloc: Global, file: &str) -> Result<Bytes, AllocError>
     ensures { IfOk result (λ name. name ≡ file.now) }
 {
     Ok(Seq::from_vec(file.as_bytes().to_vec(alloc)?))

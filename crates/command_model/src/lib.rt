@@ -1,6 +1,7 @@
 //! The step of each command, and what commands read: the input files, and what a store has.
 #![tactic(auto)]
 
+mod image;
 mod input;
 mod laws;
 mod new_table;
@@ -9,9 +10,10 @@ mod rows;
 mod store;
 
 pub use csv_ingest::CSV_LIMIT;
+pub use image::read_image;
 pub use input::read_input;
 pub use laws::may_write_law;
 pub use new_table::{NewTable, read_table};
-pub use part_name::segment_stop;
+pub use part_name::{head_stop, segment_stop};
 pub use rows::{csv_columns, read_rows};
 pub use store::{no_segment, stored_names, stored_rows, stored_table, table_with_place};

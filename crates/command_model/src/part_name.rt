@@ -1,12 +1,12 @@
 //! The refusal of a segment's file, and the parts of files as note lines print them.
 ghost use Rattle.std.specs.Prelude.{◌≡◌, ◌++◌, ◌+◌, IfOk, slice_get};
 ghost use Rattle.std.specs.Fmt.{decimal};
-ghost use Rattle.command_model.specs.Gives.{IsSegmentStop};
+ghost use Rattle.command_model.specs.Gives.{IsHeadStop, IsSegmentStop};
 ghost use Rattle.command_model.specs.Stored.{field_name, part_text};
 
 use command_words::{Fault, Note, Stop};
 use outside::Seq;
-use segment_file::Part;
+use segment_file::{HeadFault, Part};
 use std::alloc::{AllocError, Global};
 use table_schema::{Field, Table};
 
@@ -20,7 +20,18 @@ pub fn segment_stop(alloc: Global, table: &Table, name: &str, part: Part) -> Sto
     }
 }
 
-// Its note.
+/// What a fault of the file of a segment of the table is for a command.
+pub fn head_stop(alloc: Global, table: &Table, name: &str, fault: HeadFault) -> Stop
+    ensures { IsHeadStop name.now table.now.schema.fields fault result }
+{
+    match fault {
+        HeadFault::NotASegment(part) => segment_stop(alloc, table, name, part),
+        HeadFault::ReadFault => Stop::Fault(Fault::Read),
+        HeadFault::NoMemory => Stop::Fault(Fault::Memory),
+    }
+}
+
+// The note of such a refusal.
 fn not_a_segment(alloc: Global, table: &Table, name: &str, part: Part) -> Result<Note, AllocError>
     ensures { IfOk result (λ note. note
         ≡ Note.NotASegment name.now (part_text table.now.schema.fields part)) }

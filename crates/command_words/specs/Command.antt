@@ -12,6 +12,7 @@ pub data Command : Type 0 where
   Build : (name csv : List ℕ) → Command
   Drop : (name : List ℕ) → Command
   Verify : (name : List ℕ) → Command
+  Attach : (name file : List ℕ) → Command
   Listing : Command
   Ask : (about : About) (sql : List ℕ) → Command
   -- the opening of a script, which no words of a command spell
@@ -31,6 +32,7 @@ command_of (verb ∷ first ∷ second ∷ []) =
     if bytes_eq verb (codes "scan") then Some (Scan first second)
     else if bytes_eq verb (codes "create") then Some (Create first second)
     else if bytes_eq verb (codes "build") && is_segment_name first then Some (Build first second)
+    else if bytes_eq verb (codes "attach") && is_segment_name first then Some (Attach first second)
     else None
 command_of words = None
 
@@ -38,6 +40,7 @@ command_of words = None
 abbrev pub writes : Option Command → Bool
 writes (Some (Create schema settings)) = true
 writes (Some (Build name csv)) = true
+writes (Some (Attach name file)) = true
 writes (Some (Drop name)) = true
 writes (Some (Scan file sql)) = false
 writes (Some (Verify name)) = false

@@ -19,6 +19,8 @@ pub enum Command<'a> {
     Drop(&'a str),
     /// A segment whose file is to be looked at whole: its name.
     Verify(&'a str),
+    /// A segment from the file of one: its name and the file's.
+    Attach(&'a str, &'a str),
     /// The segments.
     List,
     /// A query's text, and what it is asked for over the segments.
@@ -62,6 +64,9 @@ pub fn read_command(words: &[String]) -> Option<Command<'_>>
         if verb.as_str().as_bytes() == b"build".as_slice() && is_segment_name(first.as_str()) {
             return Some(Command::Build(first.as_str(), second.as_str()));
         }
+        if verb.as_str().as_bytes() == b"attach".as_slice() && is_segment_name(first.as_str()) {
+            return Some(Command::Attach(first.as_str(), second.as_str()));
+        }
     }
     None
 }
@@ -89,7 +94,9 @@ pub fn may_write(words: &[String]) -> bool
         return true;
     }
     match read_command(words) {
-        Some(Command::Create(_, _) | Command::Build(_, _) | Command::Drop(_)) => true,
+        Some(
+            Command::Create(_, _) | Command::Build(_, _) | Command::Attach(_, _) | Command::Drop(_),
+        ) => true,
         Some(Command::Scan(_, _) | Command::Verify(_) | Command::List | Command::Ask(_, _))
         | None => false,
     }

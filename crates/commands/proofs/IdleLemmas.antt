@@ -9,7 +9,7 @@ use Rattle.segment_reads.proofs.LogLemmas.{same_log}
 use Rattle.star_answer.specs.DocLaws.{DocsAreBounded}
 use Rattle.table_store.specs.Segments.{LacksSegment}
 use Rattle.table_store.specs.TableFile.{table_name}
-use Rattle.command_words.specs.Command.{Ask, Build, Command, Create, Drop, Listing, Open, Scan, Verify}
+use Rattle.command_words.specs.Command.{Ask, Attach, Build, Command, Create, Drop, Listing, Open, Scan, Verify}
 use Rattle.command_words.specs.declared.fault.Fault.TheVariants as fault
 use Rattle.command_words.specs.declared.stop.Stop.TheVariants as stop
 use Rattle.command_model.specs.Consulted.{AtMostRead}
@@ -19,6 +19,7 @@ use Rattle.command_model.specs.Touched.{IsFileFor, IsStoreFile, LogsOpened, Only
 use Rattle.command_model.specs.World.{Devices}
 use Rattle.command_model.proofs.CreateLemmas.{names_same, no_files, no_front}
 use Rattle.command_model.proofs.StoredLemmas.{told_all}
+use Rattle.commands.proofs.AttachLemmas.{no_file}
 use Rattle.commands.proofs.ReadLemmas.{stored_heads, stored_table, unread}
 
 -- nothing is opened
@@ -39,6 +40,7 @@ touched None now = record { inputs = refl; depot = refl }
 touched (Some (Scan file sql)) now = record { inputs = (now.inputs, no_front file csv_limit now.inputs, refl); depot = refl }
 touched (Some (Create schema settings)) now = record { inputs = no_files schema settings now.inputs; depot = writes NoFile (table_name ∷ []) now.depot }
 touched (Some (Build name csv)) now = record { inputs = (now.inputs, no_front csv csv_limit now.inputs, refl); depot = writes TableFile (file_of name ∷ []) now.depot }
+touched (Some (Attach name file)) now = record { inputs = (now.inputs, no_file file now.inputs, refl); depot = writes TableFile (file_of name ∷ []) now.depot }
 touched (Some (Drop name)) now = record { inputs = refl; depot = writes TableFile (file_of name ∷ []) now.depot }
 touched (Some (Verify name)) now = record { inputs = refl; depot = looks (SegmentFile name) now.depot }
 touched (Some Listing) now = record { inputs = refl; depot = looks StoreFiles now.depot }
@@ -50,6 +52,7 @@ at_most law None now = tt
 at_most law (Some (Scan file sql)) now = tt
 at_most law (Some (Create schema settings)) now = tt
 at_most law (Some (Build name csv)) now = tt
+at_most law (Some (Attach name file)) now = tt
 at_most law (Some (Drop name)) now = tt
 at_most law (Some (Verify name)) now = told_all now.depot.held (λ files. LacksSegment (Some files) name → LogsOpened TableFile now.depot.log now.depot.log) (λ files lacks. none_opened TableFile now.depot.log)
 at_most law (Some Listing) now = stored_heads now.depot.held now.depot.log now.depot.log (unread now.depot.log now.depot.log refl)

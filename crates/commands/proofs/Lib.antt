@@ -6,3 +6,4 @@ pub mod DropLemmas
 pub mod ScriptLemmas
 pub mod IdleLemmas
 pub mod VerifyLemmas
+pub mod AttachLemmas

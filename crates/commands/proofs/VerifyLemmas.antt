@@ -67,7 +67,7 @@ table_caused name inputs stored (note.TooLarge what limit) e h = absurd cc
 table_caused name inputs stored (note.BadQuery wrong place) e h = absurd cc
 table_caused name inputs stored (note.TooManyGroups most) e h = absurd cc
 table_caused name inputs stored (note.NotASegment of part) e h =
-    told_each stored (λ files. IsWrongTable files of part) (λ files. IsWrong (Some (Verify name)) files of part) (λ files w. inl w) h
+    told_each stored (λ files. IsWrongTable files of part) (λ files. IsWrong (Some (Verify name)) inputs files of part) (λ files w. inl w) h
 
 -- a refusal of the segment of a name, where files are told
 module _ (table : Table) (name : List ℕ) where
@@ -197,7 +197,7 @@ module _ (name : List ℕ) (i a b d : Seen) (table : Table) (first : LooksFor Ha
       let refused : Of name i a d (Err (stop.Refused (note.NotASegment name part))) =
       ran_refused name i a d (log_of f) (most_of f) (note.NotASegment name part) (reads_of f.reads) (λ e. cc) refl
       (told_each a.held (λ files. IsUnlikeRows files name (note.NotASegment name part)) (λ files. VerifyRefuses name files (note.NotASegment name part)) (λ files u. inr (inr u)) unlike)
-      (told_each a.held (λ files. IsUnlikeRows files name (note.NotASegment name part)) (λ files. IsWrong (Some (Verify name)) files name part) (λ files u. inr u) unlike) in
+      (told_each a.held (λ files. IsUnlikeRows files name (note.NotASegment name part)) (λ files. IsWrong (Some (Verify name)) i.held files name part) (λ files u. inr u) unlike) in
       subst (λ n. Of name i a d (Err (stop.Refused (note.NotASegment n part)))) (sym f.stops.0) refused
 
   -- the segment was refused, or not looked at whole

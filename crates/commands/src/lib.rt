@@ -1,6 +1,7 @@
 //! The commands: a query over a CSV file, the making of a store, what it has, and queries of it.
 #![tactic(auto)]
 
+pub mod attach;
 pub mod build;
 pub mod create;
 pub mod drop;

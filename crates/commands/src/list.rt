@@ -9,16 +9,16 @@ ghost use Rattle.segment_reads.specs.Logs.{LogsHeadOf, LogsHeadsOf};
 ghost use Rattle.table_schema.specs.ValidTable.{IsValidTable};
 ghost use Rattle.table_store.specs.Segments.{AreFirstNames, has_segment};
 ghost use Rattle.command_words.specs.Command.{Listing};
-ghost use Rattle.command_model.specs.Gives.{IsHeadStop, LooksFor};
+ghost use Rattle.command_model.specs.Gives.{LooksFor};
 ghost use Rattle.command_model.specs.Profile.{StoreFiles, TableFile};
 ghost use Rattle.command_model.specs.Ran.{Ran};
 ghost use Rattle.command_model.specs.Stored as spec;
 ghost use Rattle.command_model.specs.Stored.{HasRows, HasTableFile, SegmentsRefuse, TableRefuses};
 
-use command_model::{segment_stop, stored_names, stored_table};
-use command_words::{Fault, Stop};
+use command_model::{head_stop, stored_names, stored_table};
+use command_words::Stop;
 use outside::{Bytes, Depot, Name, Seq};
-use segment_file::{HeadFault, segment_file_name};
+use segment_file::segment_file_name;
 use segment_head::open_head;
 use std::alloc::{AllocError, Global};
 use table_schema::Table;
@@ -120,18 +120,7 @@ fn count_rows<D: Depot>(
     let file = segment_file_name(alloc, name)?;
     match open_head(alloc, depot, file.as_str(), name, table) {
         Ok(head) => Ok(head.rows()),
-        Err(fault) => Err(stop_of(alloc, table, name, fault)),
-    }
-}
-
-// What a fault of a head is for a command.
-fn stop_of(alloc: Global, table: &Table, name: &str, fault: HeadFault) -> Stop
-    ensures { IsHeadStop name.now table.now.schema.fields fault result }
-{
-    match fault {
-        HeadFault::NotASegment(part) => segment_stop(alloc, table, name, part),
-        HeadFault::ReadFault => Stop::Fault(Fault::Read),
-        HeadFault::NoMemory => Stop::Fault(Fault::Memory),
+        Err(fault) => Err(head_stop(alloc, table, name, fault)),
     }
 }
 

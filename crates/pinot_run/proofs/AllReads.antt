@@ -28,7 +28,7 @@ use Rattle.segment_reads.proofs.LogLemmas.{same_log}
 use Rattle.table_store.specs.Accepted.{IsAccepted}
 use Rattle.table_store.specs.Stands.{segment_of}
 use Rattle.table_store.specs.State.{HasTable, Segment, Segments, State, Texts}
-use Rattle.command_words.specs.Command.{Ask, Build, Command, Create, Drop, Listing, Open, Scan as ScanFile, Verify}
+use Rattle.command_words.specs.Command.{Ask, Attach, Build, Command, Create, Drop, Listing, Open, Scan as ScanFile, Verify}
 use Rattle.command_words.specs.Notes.{is_fault}
 use Rattle.command_words.specs.declared.about.About.TheVariants.{Plans, Rows, RowsAndPlans}
 use Rattle.command_words.specs.declared.status.Status.{Status}
@@ -41,7 +41,7 @@ use Rattle.pinot_run.specs.ScriptReads.{Finishes, LinesRead, ReadsAll, ScriptRea
 use Rattle.pinot_run.specs.Text.{line_command}
 use Rattle.table_store.proofs.NameLemmas.{is_name}
 use Rattle.pinot_run.proofs.DoneLemmas.{not_done, write_not_done}
-use Rattle.pinot_run.proofs.IngestedLemmas.{Changes, free_by, got_other, moves, no_table, none_some, segments_in, texts_in}
+use Rattle.pinot_run.proofs.IngestedLemmas.{Changes, got_other, moves, no_table, none_some, segments_in, texts_in}
 
 -- ---- numbers of bytes
 
@@ -110,6 +110,7 @@ module _ (table : Table) (name : List ℕ) (rows : List (List Value)) where
   of_line (Some (ScanFile file sql)) done x keeps r = none_of done x r
   of_line (Some (Create schema settings)) done x keeps r = none_of done x r
   of_line (Some (Build other csv)) done x keeps r = none_of done x r
+  of_line (Some (Attach other file)) done x keeps r = none_of done x r
   of_line (Some (Drop other)) done x keeps r = none_of done x r
   of_line (Some (Verify asked)) done x keeps r = none_of done x (r (of_other asked keeps))
   of_line (Some Listing) done x keeps r = none_of done x r
@@ -165,7 +166,7 @@ stays files texts segments name segment command from to keeps is got (inr (inr (
     let own_texts : built.texts ≡ texts = sym (ap (texts_in texts) both) in
     let own : built.segments ≡ segments = sym (ap (segments_in segments) both) in
     let there : map.get built.segments name ≡ Some segment = ap (λ m. map.get m name) own ∙ got in
-    let free : map.get built.segments built.name ≡ None = free_by (map.get built.segments built.name) _ _ built.rows built.rows_are in
+    let free : map.get built.segments built.name ≡ None = built.free in
     elim (is_name name built.name) [
       | inl same ↦ absurd (none_some segment (sym free ∙ ap (map.get built.segments) (sym same) ∙ there))
       | inr other ↦

@@ -13,36 +13,36 @@ use Rattle.command_words.specs.declared.status.Status.TheVariants as status
 use Rattle.command_words.specs.declared.note.Counted.TheVariants as counted
 use Rattle.command_words.specs.declared.note.Note.TheVariants as note
 use Rattle.command_model.specs.Profile.{script_limit}
-use Rattle.command_model.specs.Step.{After, Refuses, opened, script_answer, status_after, step_of, text_of}
+use Rattle.command_model.specs.Step.{After, HasStep, Refuses, opened, script_answer, status_after, step_of, text_of}
 use Rattle.command_model.specs.World.{Stage, World, beside}
 use Rattle.pinot_run.specs.Headline.{LeavesOf, Moves}
 use Rattle.pinot_run.specs.Promise.{IsGiven, Promise}
 use Rattle.pinot_run.specs.Script.{EndsAt, GoesOn, RunsLines, RunsScript, mark_of}
-use Rattle.pinot_run.specs.ScriptLaws.{DonePrints, PrintsAll, line_step, printed, state_past}
+use Rattle.pinot_run.specs.ScriptLaws.{DonePrints, Prints, PrintsAll}
 use Rattle.pinot_run.specs.Text.{line_command, lines_of}
 use Rattle.pinot_run.proofs.HeadlineLemmas.{StandsIn, moves_on, stands_still}
 use Rattle.pinot_run.proofs.PromiseLemmas.{nothing_more}
 use Rattle.pinot_run.proofs.ScriptLifts.{script_lift}
 
 -- a command that ended without a fault gave all of its step
-given_of : (after : After) (old : Stage State) (ended : Status) (new : Stage State) → is_fault ended ≡ false → LeavesOf after old ended new → IsGiven after.answer ended old new × (new.kept ≡ after.state)
-given_of after old status.ReadFault new fine l = absurd cc
-given_of after old status.WriteFault new fine l = absurd cc
-given_of after old status.NoMemory new fine l = absurd cc
-given_of after old status.Done new fine l = l
-given_of after old status.BadWords new fine l = l
-given_of after old status.NoInput new fine l = l
-given_of after old status.BadSchema new fine l = l
-given_of after old status.BadSettings new fine l = l
-given_of after old status.TableExists new fine l = l
-given_of after old status.NoTable new fine l = l
-given_of after old status.BadCsv new fine l = l
-given_of after old status.TooLarge new fine l = l
-given_of after old status.NameTaken new fine l = l
-given_of after old status.NoSegment new fine l = l
-given_of after old status.BadQuery new fine l = l
-given_of after old status.NotASegment new fine l = l
-given_of after old status.TooManyGroups new fine l = l
+given_of : (Has : (After → Type 0) → Type 0) (old : Stage State) (ended : Status) (new : Stage State) → is_fault ended ≡ false → LeavesOf Has old ended new → Has (λ after. IsGiven after.answer ended old new × (new.kept ≡ after.state))
+given_of Has old status.ReadFault new fine l = absurd cc
+given_of Has old status.WriteFault new fine l = absurd cc
+given_of Has old status.NoMemory new fine l = absurd cc
+given_of Has old status.Done new fine l = l
+given_of Has old status.BadWords new fine l = l
+given_of Has old status.NoInput new fine l = l
+given_of Has old status.BadSchema new fine l = l
+given_of Has old status.BadSettings new fine l = l
+given_of Has old status.TableExists new fine l = l
+given_of Has old status.NoTable new fine l = l
+given_of Has old status.BadCsv new fine l = l
+given_of Has old status.TooLarge new fine l = l
+given_of Has old status.NameTaken new fine l = l
+given_of Has old status.NoSegment new fine l = l
+given_of Has old status.BadQuery new fine l = l
+given_of Has old status.NotASegment new fine l = l
+given_of Has old status.TooManyGroups new fine l = l
 
 -- texts given one after another
 both_given : (first more : List ℕ) (told : Option (List ℕ)) → appended more (appended first told) ≡ appended (first ++ more) told
@@ -67,21 +67,22 @@ no_last files line old new e = elim e.stops [
 
 -- the lines print, and leave the state of their steps
 pub lines_print : (files : Files) (lines : List (List ℕ)) (old new : Stage State) → RunsLines (Moves files) lines old status.Done new
-    → (new.out.written ≡ appended (printed files old.kept lines) old.out.written) × (new.kept ≡ state_past files old.kept lines)
-lines_print files [] old new (done, same) = (ap (λ (s : Stage State). s.out.written) same ∙ nothing_more old.out.written, ap (λ (s : Stage State). s.kept) same)
+    → (text : List ℕ) × Prints files old.kept lines text new.kept × (new.out.written ≡ appended text old.out.written)
+lines_print files [] old new (done, same) = ([], (refl, ap (λ (s : Stage State). s.kept) same), ap (λ (s : Stage State). s.out.written) same ∙ nothing_more old.out.written)
 lines_print files (line ∷ lines) old new (inl last) = absurd (no_last files line old new last)
 lines_print files (line ∷ lines) old new (inr (next, goes, rest)) =
-    let after : After = line_step files old.kept line in
-    let (given, kept) = given_of after old goes.said goes.between goes.fine goes.does.leaves in
-    let state : next.kept ≡ after.state = goes.marked.kept ∙ kept in
-    let (more, past) = lines_print files lines next new rest in
+    let h = given_of (HasStep old.kept (line_command line) files) old goes.said goes.between goes.fine goes.does.leaves in
+    let after : After = step_of old.kept (line_command line) files h.0 in
+    let given : IsGiven after.answer goes.said old goes.between = h.2.0 in
+    let state : next.kept ≡ after.state = goes.marked.kept ∙ h.2.1 in
+    let (more, prints, out_more) = lines_print files lines next new rest in
     let mark : mark_of goes.said ≡ mark_of (status_after after.answer) = ap mark_of given.ended_so in
     let out : next.out.written ≡ appended (text_of after.answer ++ mark_of (status_after after.answer)) old.out.written =
-    goes.marked.out ∙ (λ i. appended (mark i) (given.out i)) ∙ both_given (text_of after.answer) (mark_of (status_after after.answer)) old.out.written in
-    let tail : List ℕ = printed files after.state lines in (
-      more ∙ (λ i. appended (printed files (state i) lines) (out i)) ∙ both_given (text_of after.answer ++ mark_of (status_after after.answer)) tail old.out.written
-          ∙ ap (λ t. appended t old.out.written) (append_assoc (text_of after.answer) (mark_of (status_after after.answer)) tail),
-      past ∙ ap (λ s. state_past files s lines) state,
+    goes.marked.out ∙ (λ i. appended (mark i) (given.out i)) ∙ both_given (text_of after.answer) (mark_of (status_after after.answer)) old.out.written in (
+      text_of after.answer ++ (mark_of (status_after after.answer) ++ more),
+      (h.0, h.1, (more, refl, subst (λ s. Prints files s lines more new.kept) state prints)),
+      out_more ∙ ap (appended more) out ∙ both_given (text_of after.answer ++ mark_of (status_after after.answer)) more old.out.written
+          ∙ ap (λ t. appended t old.out.written) (append_assoc (text_of after.answer) (mark_of (status_after after.answer)) more),
     )
 
 -- nothing is replied to the opening of a script
@@ -114,12 +115,14 @@ done_prints files kept state file text old new inputs stored stands got script =
       | inr (done, other, of, lines) ↦
           let texts : other ≡ text = own_text old.devices.inputs.held files file text other inputs got of in
           let fine : is_fault runs.said ≡ false = ap is_fault done in
-          let (given, at) = given_of (step_of state (Some (Open file)) files) (beside state old) runs.said runs.opened fine runs.opens.leaves in
-          let silent : runs.opened.out.written ≡ old.out.written = given.out ∙ ap (λ t. appended t old.out.written) (none_replied file (map.get files file)) ∙ sym (nothing_more old.out.written) in
-          let (out, past) = lines_print files (lines_of other) runs.opened (beside next new) lines in
-          let state_is : next ≡ state_past files state (lines_of text) = past ∙ (λ k. state_past files (at k) (lines_of (texts k))) in
+          let h = given_of (HasStep state (Some (Open file)) files) (beside state old) runs.said runs.opened fine runs.opens.leaves in
+          let silent : runs.opened.out.written ≡ old.out.written = h.2.0.out ∙ ap (λ t. appended t old.out.written) (none_replied file (map.get files file)) ∙ sym (nothing_more old.out.written) in
+          let (printed, prints, out) = lines_print files (lines_of other) runs.opened (beside next new) lines in
           record {
-            out = out ∙ (λ k. appended (printed files (at k) (lines_of (texts k))) (silent k));
-            stands = subst (λ (o : Option Files). IsSomeAnd o (λ held. Stands held (state_past files state (lines_of text)))) (sym i.stored) (subst (Stands i.kept) state_is i.stands);
+            printed = printed;
+            left = next;
+            prints = subst (λ t. Prints files state (lines_of t) printed next) texts (subst (λ s. Prints files s (lines_of other) printed next) h.2.1 prints);
+            out = out ∙ ap (appended printed) silent;
+            stands = subst (λ (o : Option Files). IsSomeAnd o (λ held. Stands held next)) (sym i.stored) i.stands;
           }
     ]

@@ -10,7 +10,7 @@ use Rattle.command_words.specs.Command.{Command, call_of}
 use Rattle.command_words.specs.declared.status.Status.{Status}
 use Rattle.command_words.specs.declared.status.Status.TheVariants as status
 use Rattle.command_model.specs.Ran.{Acted, IsStepped}
-use Rattle.command_model.specs.Step.{Answer, step_of, text_of}
+use Rattle.command_model.specs.Step.{After, Answer, HasStep, step_of, text_of}
 use Rattle.command_model.specs.Profile.{profile}
 use Rattle.command_model.specs.World.{Devices, World, beside}
 use Rattle.pinot_run.specs.Calls.{AreCalls, Call}
@@ -32,7 +32,7 @@ module _ (command : Option Command) (files kept : Files) (state : State) (old ne
 
   -- a state that the command leaves, and that the store then stands for
   abbrev Next : Status → Type 0
-  Next ended = (next : State) × LeavesOf (step_of state command files) (beside state old) ended (beside next new) × StandFor next
+  Next ended = (next : State) × LeavesOf (HasStep state command files) (beside state old) ended (beside next new) × StandFor next
 
   undone_stands : IsUndone old new → StandFor state
   undone_stands undone = subst (λ (o : Option Files). IsSomeAnd o (λ held. Stands held state)) (sym (undone.stored ∙ stored)) stands
@@ -41,41 +41,50 @@ module _ (command : Option Command) (files kept : Files) (state : State) (old ne
   undone : IsUndone old new → IsUndone (beside state old) (beside state new)
   undone u = record { kept = refl; stored = u.stored; out = u.out }
 
-  stepped : (answer : Answer) → Acted command old.devices new.devices answer → IsStepped (step_of state command files) answer new.devices.depot.held
-  stepped answer acted = at old.devices.inputs.held old.devices.depot.held (λ s fs. IsStepped (step_of s command fs) answer new.devices.depot.held) state files kept inputs stored stands acted.step
+  stepped : (answer : Answer) → Acted command old.devices new.devices answer → HasStep state command files (λ after. IsStepped after answer new.devices.depot.held)
+  stepped answer acted = at old.devices.inputs.held old.devices.depot.held (λ s fs. HasStep s command fs (λ after. IsStepped after answer new.devices.depot.held)) state files kept inputs stored stands acted.step
 
   -- all of the step
-  abbrev Whole : Status → Type 0
-  Whole ended = IsGiven (step_of state command files).answer ended (beside state old) (beside (step_of state command files).state new) × StandFor (step_of state command files).state
+  abbrev Whole : Status → After → Type 0
+  Whole ended after = IsGiven after.answer ended (beside state old) (beside after.state new) × StandFor after.state
 
-  answered : (ended : Status) → IsAnswered command old ended new → Whole ended
+  answered : (ended : Status) → IsAnswered command old ended new → HasStep state command files (Whole ended)
   answered ended is =
       let step = stepped is.answer is.acted in
-      let given : IsGiven (step_of state command files).answer ended old new = subst (λ a. IsGiven a ended old new) step.answers is.given in
-      (record { ended_so = given.ended_so; out = given.out; notes = given.notes }, step.stands)
+      let after : After = step_of state command files step.0 in
+      let given : IsGiven after.answer ended old new = subst (λ a. IsGiven a ended old new) step.2.answers is.given in
+      (step.0, step.1, (record { ended_so = given.ended_so; out = given.out; notes = given.notes }, step.2.stands))
+
+  -- as the state that is next
+  abbrev NextBy : Status → Type 0
+  NextBy ended = (next : State) × HasStep state command files (λ after. IsGiven after.answer ended (beside state old) (beside next new) × (next ≡ after.state)) × StandFor next
+
+  next_by : (ended : Status) → IsAnswered command old ended new → NextBy ended
+  next_by ended is = let w = answered ended is in ((step_of state command files w.0).state, (w.0, w.1, (w.2.0, refl)), w.2.1)
 
   next_stands : (ended : Status) → Leaves command old ended new → Next ended
   next_stands status.ReadFault l = (state, (l.1, undone l.2), undone_stands l.2)
   next_stands status.WriteFault (inl l) = (state, inl (l.0, undone l.1), undone_stands l.1)
   next_stands status.WriteFault (inr cut) =
       let step = stepped cut.answer cut.acted in
-      let prefix : AppendsPrefix (text_of (step_of state command files).answer) old.out.written new.out.written = subst (λ a. AppendsPrefix (text_of a) old.out.written new.out.written) step.answers cut.prefix in
-      ((step_of state command files).state, inr (record { failed = cut.failed; prefix = prefix }, refl), step.stands)
+      let after : After = step_of state command files step.0 in
+      let prefix : AppendsPrefix (text_of after.answer) old.out.written new.out.written = subst (λ a. AppendsPrefix (text_of a) old.out.written new.out.written) step.2.answers cut.prefix in
+      (after.state, inr (step.0, step.1, (record { failed = cut.failed; prefix = prefix }, refl)), step.2.stands)
   next_stands status.NoMemory l = (state, undone l, undone_stands l)
-  next_stands status.Done l = let w = answered status.Done l in ((step_of state command files).state, (w.0, refl), w.1)
-  next_stands status.BadWords l = let w = answered status.BadWords l in ((step_of state command files).state, (w.0, refl), w.1)
-  next_stands status.NoInput l = let w = answered status.NoInput l in ((step_of state command files).state, (w.0, refl), w.1)
-  next_stands status.BadSchema l = let w = answered status.BadSchema l in ((step_of state command files).state, (w.0, refl), w.1)
-  next_stands status.BadSettings l = let w = answered status.BadSettings l in ((step_of state command files).state, (w.0, refl), w.1)
-  next_stands status.TableExists l = let w = answered status.TableExists l in ((step_of state command files).state, (w.0, refl), w.1)
-  next_stands status.NoTable l = let w = answered status.NoTable l in ((step_of state command files).state, (w.0, refl), w.1)
-  next_stands status.BadCsv l = let w = answered status.BadCsv l in ((step_of state command files).state, (w.0, refl), w.1)
-  next_stands status.TooLarge l = let w = answered status.TooLarge l in ((step_of state command files).state, (w.0, refl), w.1)
-  next_stands status.NameTaken l = let w = answered status.NameTaken l in ((step_of state command files).state, (w.0, refl), w.1)
-  next_stands status.NoSegment l = let w = answered status.NoSegment l in ((step_of state command files).state, (w.0, refl), w.1)
-  next_stands status.BadQuery l = let w = answered status.BadQuery l in ((step_of state command files).state, (w.0, refl), w.1)
-  next_stands status.NotASegment l = let w = answered status.NotASegment l in ((step_of state command files).state, (w.0, refl), w.1)
-  next_stands status.TooManyGroups l = let w = answered status.TooManyGroups l in ((step_of state command files).state, (w.0, refl), w.1)
+  next_stands status.Done l = next_by status.Done l
+  next_stands status.BadWords l = next_by status.BadWords l
+  next_stands status.NoInput l = next_by status.NoInput l
+  next_stands status.BadSchema l = next_by status.BadSchema l
+  next_stands status.BadSettings l = next_by status.BadSettings l
+  next_stands status.TableExists l = next_by status.TableExists l
+  next_stands status.NoTable l = next_by status.NoTable l
+  next_stands status.BadCsv l = next_by status.BadCsv l
+  next_stands status.TooLarge l = next_by status.TooLarge l
+  next_stands status.NameTaken l = next_by status.NameTaken l
+  next_stands status.NoSegment l = next_by status.NoSegment l
+  next_stands status.BadQuery l = next_by status.BadQuery l
+  next_stands status.NotASegment l = next_by status.NotASegment l
+  next_stands status.TooManyGroups l = next_by status.TooManyGroups l
 
 reads_of : (kept : Files) (state : State) (command : Option Command) (old : World) (ended : Status) (new : World) → old.devices.depot.held ≡ Some kept → Stands kept state → Promise command old ended new → ReadsOf state command ended old.devices new.devices
 reads_of kept NoTable command old ended new told stands p = tt

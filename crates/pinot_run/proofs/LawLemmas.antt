@@ -8,7 +8,7 @@ use Rattle.pinot_run.specs.Laws.{PromisesCompose}
 use Rattle.command_model.specs.Profile.{AnyPlace, Front, Portion, profile}
 use Rattle.pinot_run.specs.Promise.{IsStep}
 use Rattle.command_model.specs.Ran.{WhereStands}
-use Rattle.command_model.specs.Step.{step_of}
+use Rattle.command_model.specs.Step.{After, HasStep, step_of}
 use Rattle.command_model.specs.Touched.{Reads, ReadsPortion}
 
 by_told : (held stored : Option Files) (Q : State → Files → Type 0) → ((state : State) (files kept : Files) → held ≡ Some files → stored ≡ Some kept → Stands kept state → Q state files) → WhereStands held stored Q
@@ -36,10 +36,11 @@ same_held (file ∷ others) old new (mid, read, rest) = same_held others mid new
 
 pub compose : PromisesCompose
 compose first second old mid new ended later one two fine unchanged =
-    by_told old.devices.inputs.held old.devices.depot.held (λ state files. IsSomeAnd new.devices.depot.held (λ kept. Stands kept (step_of (step_of state first files).state second files).state))
+    by_told old.devices.inputs.held old.devices.depot.held (λ state files. HasStep state first files (λ between. HasStep between.state second files (λ after. IsSomeAnd new.devices.depot.held (λ kept. Stands kept after.state))))
     (λ state files kept told stored stands.
-    let stepped = at old.devices.inputs.held old.devices.depot.held (λ state files. IsStep (step_of state first files) ended old mid) state files kept told stored stands (one.step fine) in
-    let (between, there, stood) = told_one mid.devices.depot.held (λ files'. Stands files' (step_of state first files).state) stepped.stepped.stands in
+    let stepped = at old.devices.inputs.held old.devices.depot.held (λ state files. HasStep state first files (λ after. IsStep after ended old mid)) state files kept told stored stands (one.step fine) in
+    let left : After = step_of state first files stepped.0 in
+    let (between, there, stood) = told_one mid.devices.depot.held (λ files'. Stands files' left.state) stepped.2.stepped.stands in
     let told_on : mid.devices.inputs.held ≡ Some files = same_held (profile first).files old.devices.inputs mid.devices.inputs one.touched.inputs ∙ told in
-    let then = at mid.devices.inputs.held mid.devices.depot.held (λ state files. IsStep (step_of state second files) later mid new) (step_of state first files).state files between told_on there stood (two.step unchanged) in
-    then.stepped.stands)
+    let then = at mid.devices.inputs.held mid.devices.depot.held (λ state files. HasStep state second files (λ after. IsStep after later mid new)) left.state files between told_on there stood (two.step unchanged) in
+    (stepped.0, stepped.1, (then.0, then.1, then.2.stepped.stands)))

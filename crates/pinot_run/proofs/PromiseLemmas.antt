@@ -8,7 +8,7 @@ use Rattle.command_words.specs.Command.{Command}
 use Rattle.command_words.specs.Notes.{is_fault, note_text, status_of, status_of_fault}
 use Rattle.pinot_run.specs.Promise.{Counted, IsAnswered, IsGiven, IsStep, Leaves, Noted, Promise}
 use Rattle.command_model.specs.Ran.{Acted, IsStepped, NoFaults, Ran, WhereStands}
-use Rattle.command_model.specs.Step.{Answer, Refuses, Replies, status_after, step_of}
+use Rattle.command_model.specs.Step.{Answer, HasStep, Refuses, Replies, status_after, step_of}
 use Rattle.outside.specs.Seen.{Heard}
 use Rattle.command_model.specs.World.{Devices, World}
 use Rattle.command_words.specs.declared.fault.Fault.{Fault}
@@ -60,29 +60,29 @@ after new out notes = record { devices = new; out = out; notes = notes; kept = t
 
 abbrev Completes : Option Command → World → Status → Type 0
 Completes command old ended =
-    WhereStands old.devices.inputs.held old.devices.depot.held (λ state files. (ended ≡ status_after (step_of state command files).answer) ⊎ (ended ≡ status.NoMemory))
+    WhereStands old.devices.inputs.held old.devices.depot.held (λ state files. HasStep state command files (λ after. ended ≡ status_after after.answer) ⊎ (ended ≡ status.NoMemory))
 
 module _ (command : Option Command) (old : World) (new : Devices) where
   abbrev Steps : Status → World → Type 0
-  Steps ended now = WhereStands old.devices.inputs.held old.devices.depot.held (λ state files. IsStep (step_of state command files) ended old now)
+  Steps ended now = WhereStands old.devices.inputs.held old.devices.depot.held (λ state files. HasStep state command files (λ after. IsStep after ended old now))
 
   steps : (answer : Answer) (ended : Status) (now : World) → now.devices ≡ new → Acted command old.devices new answer → IsGiven answer ended old now → Steps ended now
   steps answer ended now same acted given =
-      where_map old.devices.inputs.held old.devices.depot.held (λ state files. IsStepped (step_of state command files) answer new.depot.held) (λ state files. IsStep (step_of state command files) ended old now)
-      (λ state files stepped. record { answer = answer; stepped = subst (λ (d : Devices). IsStepped (step_of state command files) answer d.depot.held) (sym same) stepped; given = given }) acted.step
+      where_map old.devices.inputs.held old.devices.depot.held (λ state files. HasStep state command files (λ after. IsStepped after answer new.depot.held)) (λ state files. HasStep state command files (λ after. IsStep after ended old now))
+      (λ state files h. (h.0, h.1, record { answer = answer; stepped = subst (λ (d : Devices). IsStepped (step_of state command files h.0) answer d.depot.held) (sym same) h.2; given = given })) acted.step
 
   completes : (answer : Answer) → Acted command old.devices new answer → Completes command old (status_after answer)
   completes answer acted =
-      where_map old.devices.inputs.held old.devices.depot.held (λ state files. IsStepped (step_of state command files) answer new.depot.held)
-      (λ state files. (status_after answer ≡ status_after (step_of state command files).answer) ⊎ (status_after answer ≡ status.NoMemory))
-      (λ state files stepped. inl (ap status_after stepped.answers)) acted.step
+      where_map old.devices.inputs.held old.devices.depot.held (λ state files. HasStep state command files (λ after. IsStepped after answer new.depot.held))
+      (λ state files. HasStep state command files (λ after. status_after answer ≡ status_after after.answer) ⊎ (status_after answer ≡ status.NoMemory))
+      (λ state files h. inl (h.0, h.1, ap status_after h.2.answers)) acted.step
 
   never : {A : Type 0} → true ≡ false → A
   never e = absurd cc
 
   memory_completes : Completes command old status.NoMemory
   memory_completes =
-      where_all old.devices.inputs.held old.devices.depot.held (λ state files. (status.NoMemory ≡ status_after (step_of state command files).answer) ⊎ (status.NoMemory ≡ status.NoMemory)) (λ state files. inr refl)
+      where_all old.devices.inputs.held old.devices.depot.held (λ state files. HasStep state command files (λ after. status.NoMemory ≡ status_after after.answer) ⊎ (status.NoMemory ≡ status.NoMemory)) (λ state files. inr refl)
 
   -- no device failed before the answer was given
   fine_counted : (ended : Status) (out notes : Heard) → NoFaults old.devices new → (ended ≢ status.WriteFault → out.faults ≡ old.out.faults) → old.out.faults ≤ out.faults → Counted ended old (after new out notes)

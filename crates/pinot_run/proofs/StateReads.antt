@@ -39,7 +39,7 @@ use Rattle.table_store.proofs.AcceptedLemmas.{accepted_valid}
 use Rattle.table_store.proofs.KeyLemmas.{keys_stand, segment_there}
 use Rattle.table_store.proofs.NameLemmas.{is_name, tied_name}
 use Rattle.table_store.proofs.StandsLemmas.{table_there}
-use Rattle.command_words.specs.Command.{Ask, Build, Command, Create, Drop, Listing, Open, Scan, Verify}
+use Rattle.command_words.specs.Command.{Ask, Attach, Build, Command, Create, Drop, Listing, Open, Scan, Verify}
 use Rattle.command_model.specs.Consulted.{Consulted, IsFileAmong, ReadsAbout, ReadsAsked, ReadsEach, ReadsHeads, ReadsStored}
 use Rattle.pinot_run.specs.Laws.{IsLiveFile, ReadsFor, ReadsSegment, ReadsState, SegmentsRead, is_done}
 use Rattle.command_words.specs.Notes.{status_of}
@@ -263,6 +263,7 @@ module _ (stored : Files) (texts : state.Texts) (segments : Segments) (stands : 
   read_so (Some (Create schema settings)) old new ended p told =
       table_state old.devices.depot.log new.devices.depot.log (Some (Create schema settings)) (is_done ended) (λ name rows entries h. h) (unread old.devices.depot.log new.devices.depot.log p.touched.depot.log)
   read_so (Some (Build name csv)) old new ended p told = table_state old.devices.depot.log new.devices.depot.log (Some (Build name csv)) (is_done ended) (λ name rows entries h. h) p.touched.depot.log
+  read_so (Some (Attach name file)) old new ended p told = table_state old.devices.depot.log new.devices.depot.log (Some (Attach name file)) (is_done ended) (λ name rows entries h. h) p.touched.depot.log
   read_so (Some (Drop name)) old new ended p told = table_state old.devices.depot.log new.devices.depot.log (Some (Drop name)) (is_done ended) (λ name rows entries h. h) p.touched.depot.log
   read_so (Some (Verify name)) old new ended p told =
       verify_state old.devices.depot.log new.devices.depot.log name (is_done ended) (map.get segments name) refl p.touched.depot.log

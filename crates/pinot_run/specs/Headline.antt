@@ -11,13 +11,15 @@ use Rattle.sql_reply.specs.SqlReply.{sql_reply}
 use Rattle.table_store.specs.Accepted.{IsAccepted}
 use Rattle.table_store.specs.Stands.{Stands, segment_of}
 use Rattle.table_store.specs.State.{HasTable, NoTable, Segment, Segments, State, Texts}
-use Rattle.command_words.specs.Command.{Build, Command, Drop, call_of}
+use Rattle.command_words.specs.Command.{Attach, Build, Command, Drop, call_of}
 use Rattle.command_words.specs.declared.about.About.TheVariants.{Rows, RowsAndPlans}
 use Rattle.command_words.specs.declared.status.Status.{Status}
 use Rattle.command_words.specs.declared.status.Status.TheVariants as status
+use Rattle.segment_check.specs.Checked.{IsImageOf}
+use Rattle.command_model.specs.Attach.{AsksCheck}
 use Rattle.command_model.specs.Build.{new_rows}
 use Rattle.command_model.specs.Queried.{all_rows}
-use Rattle.command_model.specs.Step.{After, Replies, sql_answered, query_answer, step_of, text_of}
+use Rattle.command_model.specs.Step.{After, HasStep, Replies, sql_answered, query_answer, text_of}
 use Rattle.command_model.specs.World.{Devices, Stage, beside}
 use Rattle.pinot_run.specs.Calls.{AreCalls, Call}
 use Rattle.pinot_run.specs.Laws.{ReadsState, is_done}
@@ -52,16 +54,17 @@ pub record IsCutShort {K : Type 0} (after : After) (old new : Stage K) : Type 0 
   pub failed : Rose old.out.faults new.out.faults ⊎ Rose old.notes.faults new.notes.faults
   pub prefix : AppendsPrefix (text_of after.answer) old.out.written new.out.written
 
--- what a command whose step this is leaves of a state, and gives, by its status: where a device
--- failed or memory ran out the state before and nothing, or where a stream failed the step's state
--- and a first part of its reply; else all of the step
-abbrev pub LeavesOf : After → Stage State → Status → Stage State → Type 0
-LeavesOf after old status.ReadFault new = ReadsFailed old new × IsUndone old new
-LeavesOf after old status.WriteFault new =
+-- what a command leaves of a state, and gives, by what its step has and by its status: where a
+-- device failed or memory ran out the state before and nothing, or where a stream failed the step's
+-- state and a first part of its reply; else all of the step
+abbrev pub LeavesOf : ((After → Type 0) → Type 0) → Stage State → Status → Stage State → Type 0
+LeavesOf Has old status.ReadFault new = ReadsFailed old new × IsUndone old new
+LeavesOf Has old status.WriteFault new =
     (Rose old.devices.depot.write_faults new.devices.depot.write_faults × IsUndone old new)
-    ⊎ (IsCutShort after old new × (new.kept ≡ after.state))
-LeavesOf after old status.NoMemory new = IsUndone old new
-LeavesOf after old ended new = IsGiven after.answer ended old new × (new.kept ≡ after.state)
+    ⊎ Has (λ after. IsCutShort after old new × (new.kept ≡ after.state))
+LeavesOf Has old status.NoMemory new = IsUndone old new
+LeavesOf Has old ended new = Has (λ after. IsGiven after.answer ended old new
+    × (new.kept ≡ after.state))
 
 -- what a command read of a state: where there is a table, the files of the table and of its
 -- segments alone, and of each segment what the plan of its rows says, at most so where it was not
@@ -75,7 +78,7 @@ ReadsOf (HasTable texts segments) command ended old new = (table : Table)
 -- over these input files a command led from the state that is kept before it to the one after it
 pub record Moves (files : Files) (command : Option Command) (old : Stage State) (ended : Status)
     (new : Stage State) : Type 0 where
-  pub leaves : LeavesOf (step_of old.kept command files) old ended new
+  pub leaves : LeavesOf (HasStep old.kept command files) old ended new
   pub stands : IsSomeAnd new.devices.depot.held (λ stored. Stands stored new.kept)
   pub noted : Noted ended old.notes new.notes
   pub counted : Counted ended old new
@@ -137,24 +140,46 @@ Reaches (move ∷ earlier) state = (move.new.kept ≡ state)
     × Moves move.files move.command move.old move.ended move.new
     × Reaches earlier move.old.kept
 
--- a `build` of this name took effect, and these are the rows of its file
-pub record Ingests (move : Move) (name : List ℕ) (rows : List (List Value)) : Type 0 where
+-- a command is a `build` of this name, and these are the rows of its file
+pub record IsBuildOf (command : Option Command) (files : Files) (segments : Segments)
+    (table : Table) (name : List ℕ) (rows : List (List Value)) : Type 0 where
   pub csv : List ℕ
-  pub built : move.command ≡ Some (Build name csv)
+  pub command_is : command ≡ Some (Build name csv)
+  pub rows_are : new_rows table segments name csv files ≡ Ok rows
+
+-- a command is an `attach` of this name, and its file is the image of these rows
+pub record IsAttachOf (command : Option Command) (files : Files) (texts : Texts)
+    (segments : Segments) (table : Table) (name : List ℕ) (rows : List (List Value)) : Type 0 where
+  pub file : List ℕ
+  pub command_is : command ≡ Some (Attach name file)
+  pub bytes : List ℕ
+  pub asks : AsksCheck texts segments name file files table bytes
+  pub is_image : IsImageOf table name bytes rows
+
+-- it is one of both
+abbrev pub IsSource : Option Command → Files → Texts → Segments → Table → List ℕ
+    → List (List Value) → Type 0
+IsSource command files texts segments table name rows =
+    IsBuildOf command files segments table name rows
+    ⊎ IsAttachOf command files texts segments table name rows
+
+-- a `build` or an `attach` of this name took effect, and these are the rows of its file
+pub record Ingests (move : Move) (name : List ℕ) (rows : List (List Value)) : Type 0 where
   pub took_effect : move.new.kept ≢ move.old.kept
   pub texts : Texts
   pub segments : Segments
   pub from_is : move.old.kept ≡ HasTable texts segments
   pub table : Table
   pub accepted : IsAccepted texts table
-  pub rows_are : new_rows table segments name csv move.files ≡ Ok rows
+  pub source : IsSource move.command move.files texts segments table name rows
 
 -- whether a command is on the segment of a name: it makes it or drops it
 abbrev pub IsOn : List ℕ → Option Command → Type 0
 IsOn name command = ((csv : List ℕ) × (command ≡ Some (Build name csv)))
-    ⊎ (command ≡ Some (Drop name))
+    ⊎ (((file : List ℕ) × (command ≡ Some (Attach name file)))
+    ⊎ (command ≡ Some (Drop name)))
 
--- of the moves on a name that took effect the last is a `build`, of these rows
+-- of the moves on a name that took effect the last is a `build` or an `attach`, of these rows
 abbrev pub IsIngested : List Move → List ℕ → List (List Value) → Type 0
 IsIngested [] name rows = ⊥
 IsIngested (move ∷ earlier) name rows = Ingests move name rows

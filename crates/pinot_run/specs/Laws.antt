@@ -21,7 +21,7 @@ use Rattle.command_words.specs.Command.{Ask, Command, Verify}
 use Rattle.command_words.specs.Notes.{is_fault}
 use Rattle.pinot_run.specs.Promise.{Promise}
 use Rattle.command_model.specs.Ran.{WhereStands}
-use Rattle.command_model.specs.Step.{step_of}
+use Rattle.command_model.specs.Step.{HasStep}
 use Rattle.command_model.specs.World.{World}
 use Rattle.command_words.specs.declared.about.About.TheVariants.{Rows, RowsAndPlans}
 use Rattle.command_words.specs.declared.status.Status.{Status}
@@ -33,8 +33,8 @@ PromisesCompose = (first second : Option Command) (old mid new : World) (ended l
     → Promise first old ended mid → Promise second mid later new
     → is_fault ended ≡ false → is_fault later ≡ false
     → WhereStands old.devices.inputs.held old.devices.depot.held
-    (λ state files. IsSomeAnd new.devices.depot.held (λ kept.
-    Stands kept (step_of (step_of state first files).state second files).state))
+    (λ state files. HasStep state first files (λ between. HasStep between.state second files
+    (λ after. IsSomeAnd new.devices.depot.held (λ kept. Stands kept after.state))))
 
 -- ---- what is read of a state
 

@@ -7,7 +7,7 @@ use Rattle.command_model.specs.Consulted.{AtMostRead}
 use Rattle.command_words.specs.Notes.{fault_line, is_fault}
 use Rattle.command_model.specs.Profile.{may_read, profile}
 use Rattle.command_model.specs.Ran.{Acted, IsStepped, WhereStands}
-use Rattle.command_model.specs.Step.{After, Answer, line_of, status_after, step_of, text_of}
+use Rattle.command_model.specs.Step.{After, Answer, HasStep, line_of, status_after, text_of}
 use Rattle.command_model.specs.Touched.{Touched}
 use Rattle.outside.specs.Seen.{Heard}
 use Rattle.command_model.specs.World.{Stage, World}
@@ -100,11 +100,11 @@ pub record IsStep (after : After) (ended : Status) (old new : World) : Type 0 wh
 pub record Promise (command : Option Command) (old : World) (ended : Status) (new : World)
     : Type 0 where
   pub step : is_fault ended ≡ false → WhereStands old.devices.inputs.held old.devices.depot.held
-      (λ state files. IsStep (step_of state command files) ended old new)
+      (λ state files. HasStep state command files (λ after. IsStep after ended old new))
   pub leaves : Leaves command old ended new
   pub complete : IsQuiet old new → WhereStands old.devices.inputs.held old.devices.depot.held
-      (λ state files. (ended ≡ status_after (step_of state command files).answer)
-      ⊎ (ended ≡ status.NoMemory))
+      (λ state files. HasStep state command files (λ after.
+      ended ≡ status_after after.answer) ⊎ (ended ≡ status.NoMemory))
   pub notes : Noted ended old.notes new.notes
   pub counted : Counted ended old new
   pub touched : Touched command old.devices new.devices

@@ -6,35 +6,30 @@ use Rattle.outside.specs.Sink.{appended}
 use Rattle.table_store.specs.Stands.{Stands}
 use Rattle.table_store.specs.State.{State}
 use Rattle.command_words.specs.declared.status.Status.TheVariants as status
-use Rattle.command_model.specs.Step.{After, status_after, step_of, text_of}
+use Rattle.command_model.specs.Step.{HasStep, status_after, text_of}
 use Rattle.command_model.specs.World.{World}
 use Rattle.pinot_run.specs.Promise.{Promise}
 use Rattle.pinot_run.specs.Script.{RunsScript, mark_of}
 use Rattle.pinot_run.specs.Text.{line_command, lines_of}
 
--- the step of a line
-abbrev pub line_step : Files → State → List ℕ → After
-line_step files state line = step_of state (line_command line) files
-
--- what lines print from a state on: the reply of each and its mark, one after another
-abbrev pub printed : Files → State → List (List ℕ) → List ℕ
-printed files state [] = []
-printed files state (line ∷ lines) = text_of (line_step files state line).answer
-    ++ (mark_of (status_after (line_step files state line).answer)
-    ++ printed files (line_step files state line).state lines)
-
--- the state that lines leave, one after another
-abbrev pub state_past : Files → State → List (List ℕ) → State
-state_past files state [] = state
-state_past files state (line ∷ lines) = state_past files (line_step files state line).state lines
+-- what lines print from a state on, and the state that they leave: the reply of each by its step,
+-- and its mark, one after another
+abbrev pub Prints : Files → State → List (List ℕ) → List ℕ → State → Type 0
+Prints files state [] text left = (text ≡ []) × (left ≡ state)
+Prints files state (line ∷ lines) text left = HasStep state (line_command line) files (λ after.
+    (more : List ℕ)
+    × (text ≡ text_of after.answer ++ (mark_of (status_after after.answer) ++ more))
+    × Prints files after.state lines more left)
 
 -- a script that ends well has run every line of its file: it has printed the reply and the mark of
 -- each, in their order, and left the state of their steps, one after another
 pub record PrintsAll (files : Files) (state : State) (text : List ℕ) (old new : World) : Type 0
   where
-    pub out : new.out.written ≡ appended (printed files state (lines_of text)) old.out.written
-    pub stands : IsSomeAnd new.devices.depot.held (λ held.
-        Stands held (state_past files state (lines_of text)))
+    pub printed : List ℕ
+    pub left : State
+    pub prints : Prints files state (lines_of text) printed left
+    pub out : new.out.written ≡ appended printed old.out.written
+    pub stands : IsSomeAnd new.devices.depot.held (λ held. Stands held left)
 
 -- so it is of each script that ends well over a store that stands for a state
 abbrev pub DonePrints : Type 0

@@ -6,7 +6,7 @@ ghost use Rattle.command_words.specs.Notes.{is_fault};
 ghost use Rattle.pinot_run.specs.Promise.{Counted, IsQuiet, IsStep, Leaves, Noted, Promise};
 ghost use Rattle.pinot_run.specs.Script.{Does, OfOne, OfScript, RunsScript};
 ghost use Rattle.command_model.specs.Ran.{Ran, WhereStands};
-ghost use Rattle.command_model.specs.Step.{status_after, step_of};
+ghost use Rattle.command_model.specs.Step.{HasStep, status_after};
 ghost use Rattle.command_model.specs.Touched.{Touched};
 ghost use Rattle.outside.specs.Seen.{heard};
 ghost use Rattle.command_model.specs.World.{devices, world};
@@ -14,6 +14,7 @@ ghost use Rattle.command_model.specs.World.{devices, world};
 use crate::finish::{give_note, give_text, note_fault, status_of_fault};
 use crate::script::run_script;
 use command_words::{Command, Note, Status, Stop, read_command, script_file};
+use commands::attach::attach;
 use commands::build::build;
 use commands::create::create;
 use commands::drop::drop_named;
@@ -41,9 +42,9 @@ pub fn run_command<I: Shelf, D: Depot, O: Sink, N: Sink>(
     // Where no device failed and there was memory, the command did what its step says.
     ensures step { OfOne (call_of (map string_bytes words.now)) (λ command. is_fault result ≡ false
         → WhereStands (I.held inputs.old) (D.held depot.old) (λ state files.
-        IsStep (step_of state command files) result
+        HasStep state command files (λ after. IsStep after result
         (world I.Shelf D.Shelf O.Sink N.Sink inputs.old depot.old out.old notes.old)
-        (world I.Shelf D.Shelf O.Sink N.Sink inputs.new depot.new out.new notes.new))) }
+        (world I.Shelf D.Shelf O.Sink N.Sink inputs.new depot.new out.new notes.new)))) }
 
     // What is left after each status, over any store, with the cause of each refusal and of each
     // fault.
@@ -56,7 +57,7 @@ pub fn run_command<I: Shelf, D: Depot, O: Sink, N: Sink>(
         (world I.Shelf D.Shelf O.Sink N.Sink inputs.old depot.old out.old notes.old)
         (world I.Shelf D.Shelf O.Sink N.Sink inputs.new depot.new out.new notes.new)
         → WhereStands (I.held inputs.old) (D.held depot.old) (λ state files.
-        (result ≡ status_after (step_of state command files).answer)
+        HasStep state command files (λ after. result ≡ status_after after.answer)
         ⊎ (result ≡ Status.NoMemory))) }
 
     // The notes grow by the line of the status, or by a part of one line where they fail.
@@ -123,6 +124,7 @@ fn reply_to<I: Shelf, D: Depot>(
         Some(Command::Scan(file, sql)) => scan(alloc, file, sql, inputs),
         Some(Command::Create(schema, settings)) => create(alloc, schema, settings, inputs, depot),
         Some(Command::Build(name, csv)) => build(alloc, name, csv, inputs, depot),
+        Some(Command::Attach(name, file)) => attach(alloc, name, file, inputs, depot),
         Some(Command::Drop(name)) => drop_named(alloc, name, depot),
         Some(Command::Verify(name)) => verify(alloc, name, depot),
         Some(Command::List) => list(alloc, depot),

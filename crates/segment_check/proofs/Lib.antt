@@ -8,3 +8,4 @@ pub mod FailsOnce
 pub mod OnePart
 pub mod SaidRows
 pub mod ImageOrPart
+pub mod Finds

@@ -9,17 +9,19 @@ use Rattle.segment_file.specs.declared.fault.HeadFault.{HeadFault}
 use Rattle.segment_file.specs.declared.fault.HeadFault.TheVariants.{NotASegment, ReadFault}
 use Rattle.segment_file.specs.declared.part.Part.{Part}
 use Rattle.segment_build.specs.FileReads.{LogsFile}
+use Rattle.segment_build.specs.Growing.{TreesFit}
 use Rattle.segment_check.specs.Checked.{IsImageOf, IsNoImage}
 
 -- where files are told, this one has bytes with P; one that is missing has none
 abbrev pub OfBytes : Option Files → List ℕ → (List ℕ → Type 0) → Type 0
 OfBytes held file P = IfSome held (λ files. P (bytes_of (Some files) file))
 
--- a file was looked at whole, and no other: it is the image of the rows that are answered, or of
--- none
+-- a file was looked at whole, and no other: it is the image of the rows that are answered, of which
+-- no star-tree is too large, or of none
 pub record ChecksImage {A : Type 0} (rows_in : A → List (List Value)) (table : Table)
     (name file : List ℕ) (old new : Seen) (result : Result A HeadFault) : Type 0 where
   pub rows : IfOk result (λ a. AreRows table.schema.fields (rows_in a))
+  pub fits : IfOk result (λ a. TreesFit table (rows_in a))
   pub image : IfOk result (λ a. OfBytes old.held file (λ bytes.
       IsImageOf table name bytes (rows_in a)))
   pub refused : IfErr result (λ fault. (p : Part) → fault ≡ NotASegment p

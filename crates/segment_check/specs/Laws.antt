@@ -8,6 +8,7 @@ use Rattle.segment_file.specs.Image.{CanHold, image}
 use Rattle.segment_file.specs.Names.{IsSegmentName}
 use Rattle.segment_file.specs.Rules.{FailsAt}
 use Rattle.segment_check.specs.Checked.{FailsImageAt, IsImageOf, IsNoImage}
+use Rattle.segment_check.specs.Found.{Found, IsFound}
 
 -- no part of the image of rows that a segment may have is wrong
 abbrev pub ImagesPass : Type 0
@@ -34,3 +35,13 @@ abbrev pub ImageOrPart : Type 0
 ImageOrPart = (table : Table) (name bytes : List ℕ) → IsValidTable table → IsSegmentName name
     → ((rows : List (List Value)) → ¬ IsImageOf table name bytes rows)
     → ¬ ((part : Part) → ¬ IsNoImage table name bytes part)
+
+-- the check of a file finds one thing alone
+abbrev pub FindsOne : Type 0
+FindsOne = (table : Table) (name bytes : List ℕ) (a b : Found) → IsValidTable table
+    → IsSegmentName name → IsFound table name bytes a → IsFound table name bytes b → a ≡ b
+
+-- and of no file it finds nothing
+abbrev pub FindsSome : Type 0
+FindsSome = (table : Table) (name bytes : List ℕ) → IsValidTable table → IsSegmentName name
+    → ¬ ((found : Found) → ¬ IsFound table name bytes found)

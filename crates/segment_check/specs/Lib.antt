@@ -1,4 +1,5 @@
 pub mod Checked
+pub mod Found
 pub mod Reading
 pub mod Calls
 pub mod Laws

@@ -1,4 +1,5 @@
 //! A file is checked: whether it is the image of some rows.
+ghost use Rattle.std.specs.Prelude.{◌≡◌, IfOk, length};
 ghost use Rattle.outside.specs.Seen.{seen};
 ghost use Rattle.values.specs.Columns.{rows_of};
 ghost use Rattle.segment_file.specs.Names.{IsSegmentOf};
@@ -23,8 +24,9 @@ pub fn check_columns<S: Shelf>(
     table: &Table,
 ) -> Result<Columns, HeadFault>
     requires { IsSegmentOf table.now name.now }
-    ensures { ChecksImage rows_of table.now name.now file.now
+    ensures checks { ChecksImage rows_of table.now name.now file.now
         (seen S.Shelf shelf.old) (seen S.Shelf shelf.new) result }
+    ensures width { IfOk result (λ t. length t.columns ≡ length table.now.schema.fields) }
 {
     let read = match read_file_head(alloc, shelf, file, name, table) {
         Ok(read) => read,

@@ -1,9 +1,11 @@
 //! The columns of a file are read: the ids of its forward indexes, and the values of these.
-ghost use Rattle.std.specs.Prelude.{◌≡◌, ◌++◌, ◌∷◌, [], ℕ, List, IfErr, IfOk, IfSome, IsErrOf, IsSome, OnOk, length, slice_get, Some};
+ghost use Rattle.std.specs.Prelude.{◌≡◌, ◌<◌, ◌++◌, ◌∷◌, [], ℕ, List, IfErr, IfOk, IfSome, IsErrOf, IsSome, OnOk, get_or, length, pos, slice_get, Some};
 ghost use Rattle.outside.specs.Seen.{OnlyReads, seen};
 ghost use Rattle.value_ids.specs.Coding.{AreBelow, values_at};
 ghost use Rattle.value_ids.specs.Dictionary.{Distinct, IsDictionary};
+ghost use Rattle.values.specs.Columns.{is_text, pushed};
 ghost use Rattle.values.specs.Kinds.{is_of};
+ghost use Rattle.values.specs.declared.value.Value.TheVariants as value;
 ghost use Rattle.segment_file.specs.declared.fault.HeadFault.TheVariants.{NotASegment};
 ghost use Rattle.segment_file.specs.declared.part.Part.{Part};
 ghost use Rattle.segment_file.specs.declared.part.Part.TheVariants as part;
@@ -99,9 +101,28 @@ fn column_of(
     let mut column = empty_column(alloc, kind);
     column.reserve(ids.len())?;
     'ids: for id in ids {
-        column.push(dictionary.value_at(*id))?;
+        push_value(alloc, dictionary, *id, &mut column)?;
     }
     Ok(column)
+}
+
+// Adds the value of an id at the end. A text is not made anew.
+fn push_value(
+    alloc: Global,
+    dictionary: &Dictionary,
+    id: u32,
+    column: &mut Column,
+) -> Result<(), NoMemory>
+    requires id { id < length dictionary.now.values }
+    requires sort { column.old.are_texts
+        ≡ is_text (get_or dictionary.now.values id (value.Whole (pos 0))) }
+    ensures { OnOk result (column.new
+        ≡ pushed column.old (get_or dictionary.now.values id (value.Whole (pos 0)))) }
+{
+    match dictionary.texts() {
+        Some(texts) => column.push_text(texts.text(id as usize)),
+        None => column.push(&dictionary.value_at(alloc, id)?),
+    }
 }
 
 // A column of the kind without any values yet.

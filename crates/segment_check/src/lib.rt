@@ -9,4 +9,6 @@ mod head;
 mod laws;
 
 pub use check::{check_columns, check_image};
-pub use laws::{fails_once_law, image_or_part_law, images_pass_law, one_part_law};
+pub use laws::{
+    fails_once_law, finds_one_law, finds_some_law, image_or_part_law, images_pass_law, one_part_law,
+};

@@ -1,11 +1,14 @@
--- Whether the file of a stored segment is the image of rows.
+-- Whether the file of a stored segment is the image of rows. What the check of any file finds comes
+-- with it.
 use Rattle.std.specs.Prelude.{ℕ, List, Some}
 use Rattle.outside.specs.Files.{Files, bytes_of}
 use Rattle.values.specs.declared.value.Value.{Value}
 use Rattle.table_schema.specs.declared.table.Table.{Table}
 use Rattle.segment_file.specs.Names.{file_of}
 use Rattle.segment_file.specs.declared.part.Part.{Part}
-use Rattle.segment_check.specs.Checked.{IsImageOf, IsNoImage}
+pub use Rattle.segment_check.specs.Calls.{ChecksImage, OfBytes}
+pub use Rattle.segment_check.specs.Checked.{IsImageOf, IsNoImage}
+pub use Rattle.segment_check.specs.Found.{Found, IsFound}
 
 -- the file of the segment of this name is the image of these rows, which are in its order
 abbrev pub IsStoredImage : Table → Files → List ℕ → List (List Value) → Type 0

@@ -24,6 +24,7 @@ pub use laws::{
 };
 pub use open::open_table;
 pub use publishing::publish_segment;
+pub use segment_check::check_columns;
 pub use segment_file::Part;
 pub use segments::{MOST_SEGMENTS, find_room, holds_segment, segment_names};
 pub use table_file::{FILE_LIMIT, NAME, TEXT_LIMIT, texts_of};

@@ -4,9 +4,11 @@
 //! commands after it, that text, a column of so many ones, or one of the numbers from 1 on; `stored
 //! NAME TEXT` gives a published file of the store, and `segments COUNT` so many with names of
 //! segments' files, from `g1.seg` on. The calls that fail are `DEVICE:NUMBER`, with blanks between
-//! them; in their place `then` keeps the devices of the command before, and `long` makes every
-//! input file too long. A word `pad COUNT TEXT` is the text with so many bytes, by blanks at its
-//! end. The word `open?` opens the table, and `file?` shows its file.
+//! them, or `DEVICE:NUMBER..` for all from one on; in their place `then` keeps the devices of the
+//! command before, `again` keeps the published files alone, as after a restart, `long` says of
+//! every input file that it is too long, and `length 0`, `length + 1` and `length - 1` say
+//! something false of its length. A word `pad COUNT TEXT` is the text with so many bytes, by blanks
+//! at its end. The word `open?` opens the table, and `file?` shows its file.
 
 use crate::cases::Report;
 use crate::counting::Span;
@@ -157,8 +159,12 @@ impl Given {
 
     // The devices as they are before the commands to come.
     fn devices(&self, alloc: Global, calls: &str) -> Devices {
+        self.devices_over(alloc, copies(alloc, &self.stored), calls)
+    }
+
+    // The devices with these published files.
+    fn devices_over(&self, alloc: Global, stored: Files, calls: &str) -> Devices {
         let files = copies(alloc, &self.files);
-        let stored = copies(alloc, &self.stored);
         Devices::new(alloc, files, stored, self.spans.as_slice(), calls)
     }
 }
@@ -210,7 +216,12 @@ impl Run {
     }
 
     fn renew(&mut self, alloc: Global, calls: &str) {
-        let devices = self.given.devices(alloc, calls);
+        let devices = if calls == "again" {
+            let stored = self.devices.published(alloc);
+            self.given.devices_over(alloc, stored, "")
+        } else {
+            self.given.devices(alloc, calls)
+        };
         drop(mem::replace(&mut self.devices, devices));
     }
 

@@ -2,7 +2,7 @@
 
 use crate::text::{Text, string};
 use memory_devices::MemoryDepot;
-use outside::{Depot, DepotFault, Name, ReadResult, Seq, Shelf, ShelfFault};
+use outside::{Bytes, Depot, DepotFault, Name, NoMemory, ReadResult, Seq, Shelf, ShelfFault};
 use std::alloc::Global;
 
 /// The bytes of a file from one place up to another, and how many of them were read.
@@ -73,6 +73,11 @@ impl CountingDepot {
     /// A depot of which the reads of these spans are counted from now on.
     pub fn new(depot: MemoryDepot, spans: Vec<Span>) -> CountingDepot {
         CountingDepot { depot, spans }
+    }
+
+    /// The published files.
+    pub fn files(&self, alloc: Global) -> Result<Seq<(Name, Bytes)>, NoMemory> {
+        self.depot.files(alloc)
     }
 
     /// Adds each label, and how many bytes were read of its spans since this was last asked.

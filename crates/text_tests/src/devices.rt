@@ -1,8 +1,8 @@
 //! The devices of a command, in memory.
 
 use crate::counting::{CountingDepot, Span, fresh_spans};
-use crate::inputs::Inputs;
-use crate::text::{Text, number, parted};
+use crate::inputs::{Inputs, Told};
+use crate::text::{Text, meaning, number, parted};
 use memory_devices::{MemoryDepot, MemoryShelf, MemorySink};
 use outside::{Bytes, Name, NoMemory, Seq, read_all};
 use pinot_run::run_command;
@@ -39,16 +39,37 @@ fn added(bytes: &[u8], start: usize) -> &str {
     }
 }
 
-// The numbers from 0 of the calls of a device that fail.
+// What is said of the lengths of input files, in the place of calls that fail.
+const LENGTHS: &[(&str, Told)] = &[
+    ("long", Told::Long),
+    ("length 0", Told::Zero),
+    ("length + 1", Told::More),
+    ("length - 1", Told::Less),
+];
+
+// The most calls of a stream, or of the input files, in a case in which they fail from one on.
+const LATER: u64 = 64;
+
+// The numbers from 0 of the calls of a device that fail: one, or those from one on.
 fn failing(alloc: Global, calls: &str, device: &str) -> Seq<u64> {
     let mut numbers = Seq::new(alloc);
     for call in calls.split(' ') {
         let (name, at) = parted(call, ':');
         if name == device {
-            let _added = numbers.push(u64::from(number(at)));
+            let first = u64::from(number(at.trim_end_matches('.')));
+            let end = first + if at.ends_with("..") { LATER } else { 1 };
+            for at in first..end {
+                let _added = numbers.push(at);
+            }
         }
     }
     numbers
+}
+
+// The number from 0 of the call from which on all calls of the depot fail.
+fn stop(calls: &str) -> Option<u64> {
+    let first = calls.strip_prefix("depot:")?.strip_suffix("..")?;
+    Some(u64::from(number(first)))
 }
 
 fn stream(alloc: Global, calls: &str, device: &str) -> Result<MemorySink, NoMemory> {
@@ -102,21 +123,25 @@ fn store(
     spans: &[Span],
     calls: &str,
 ) -> Result<CountingDepot, NoMemory> {
-    let depot = MemoryDepot::new(alloc, stored, failing(alloc, calls, "depot"))?;
+    let depot = match stop(calls) {
+        Some(after) => MemoryDepot::stopping(alloc, stored, after)?,
+        None => MemoryDepot::new(alloc, stored, failing(alloc, calls, "depot"))?,
+    };
     Ok(CountingDepot::new(depot, fresh_spans(alloc, spans)))
 }
 
 // Input files, of which these calls fail.
 fn inputs_of(alloc: Global, files: Files, calls: &str) -> Result<Inputs, NoMemory> {
     let files = MemoryShelf::new(alloc, files, failing(alloc, calls, "inputs"))?;
-    let are_long = calls == "long";
-    Ok(Inputs { files, are_long })
+    let told = meaning(LENGTHS, calls).unwrap_or(Told::Truth);
+    Ok(Inputs { files, told })
 }
 
 impl Devices {
-    /// Devices with these input files and published files. The calls that fail are `DEVICE:NUMBER`,
-    /// from 0 on, with blanks between them; where they are `long`, none fails, and every input file
-    /// is too long.
+    /// Devices with these input files and published files. The calls that fail are
+    /// `DEVICE:NUMBER`, from 0 on, with blanks between them, or `DEVICE:NUMBER..` for all from one
+    /// on; in their place `long`, `length 0`, `length + 1` or `length - 1` is what is said of each
+    /// input file's length.
     pub fn new(alloc: Global, files: Files, stored: Files, spans: &[Span], calls: &str) -> Devices {
         Devices {
             inputs: inputs_of(alloc, files, calls),
@@ -141,6 +166,14 @@ impl Devices {
         out.add_count(u64::from(status));
         out.add(" ");
         streams.show_added(starts, out);
+    }
+
+    /// The published files of the store, none where there is no memory for them.
+    pub fn published(&self, alloc: Global) -> Files {
+        match &self.depot {
+            Ok(depot) => depot.files(alloc).unwrap_or(Seq::new(alloc)),
+            Err(_) => Seq::new(alloc),
+        }
     }
 
     /// Adds how many bytes were read of the spans of each label since this was last asked.

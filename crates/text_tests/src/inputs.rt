@@ -1,16 +1,29 @@
-//! Input files in memory, of which each may be said to be one byte longer than the longest that a
-//! command reads.
+//! Input files in memory, of whose lengths something false may be said.
 
 use memory_devices::MemoryShelf;
 use outside::{Name, ReadResult, Seq, Shelf, ShelfFault};
 use std::alloc::Global;
 
-/// Files in memory. Where they are long, no name is missing, and each file is too long for every
-/// command.
+/// What is said of the length of a file.
+#[derive(Clone, Copy)]
+pub enum Told {
+    /// How long it is.
+    Truth,
+    /// One byte more than the longest that a command reads, of every name.
+    Long,
+    /// That it is empty.
+    Zero,
+    /// One byte more than it has.
+    More,
+    /// One byte less than it has.
+    Less,
+}
+
+/// Files in memory, and what is said of their lengths.
 #[derive(Drop)]
 pub struct Inputs {
     pub files: MemoryShelf,
-    pub are_long: bool,
+    pub told: Told,
 }
 
 impl Shelf for Inputs {
@@ -31,10 +44,16 @@ impl Shelf for Inputs {
     }
 
     fn length(&mut self, alloc: Global, name: &str) -> Result<u64, ShelfFault> {
-        if self.are_long {
+        if let Told::Long = self.told {
             return Ok(134_217_729);
         }
-        self.files.length(alloc, name)
+        let length = self.files.length(alloc, name)?;
+        Ok(match self.told {
+            Told::Truth | Told::Long => length,
+            Told::Zero => 0,
+            Told::More => length.saturating_add(1),
+            Told::Less => length.saturating_sub(1),
+        })
     }
 
     fn read_at(&mut self, alloc: Global, name: &str, offset: u64, into: &mut [u8]) -> ReadResult {

@@ -25,7 +25,7 @@ returns-clause-looks g c =
     let e = c.in-Err.ensures in
     let is : c.as_str.result.now ≡ file_of c.args.name.now = c.as_str.ensures.value ∙ c.in_ok-file.ensures in
     uncounted (seen g.D.Shelf c.args.depot.now) (seen g.D.Shelf c.open_head.new.shelf) c.args.table.now c.args.name.now c.as_str.result.now is c.requires.name
-    c.in-Err.fault c.stop_of.result c.stop_of.ensures c.requires.there e.refused e.first e.only_reads e.log
+    c.in-Err.fault c.head_stop.result c.head_stop.ensures c.requires.there e.refused e.first e.only_reads e.log
 
 pub returns-clause-heads : goal.returns-clause-heads
 returns-clause-heads g c =

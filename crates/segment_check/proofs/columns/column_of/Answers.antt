@@ -1,5 +1,8 @@
-use Rattle.std.proofs.Common.{◌≡◌, ◌≤◌, ◌∙◌, ℕ, List, length, get_or, take, ap}
+use Rattle.std.proofs.Common.{◌≡◌, ◌≤◌, ◌∙◌, ℕ, List, length, get_or, pos, take, ap}
 use Rattle.std.proofs.lemmas.List.{get_or_default, take_all}
+use Rattle.std.proofs.lemmas.Option.{slice_get-get_or}
+use Rattle.values.specs.declared.value.Value.{Value}
+use Rattle.values.specs.declared.value.Value.TheVariants.{Whole}
 use Rattle.value_ids.specs.Coding.{values_at}
 use Rattle.segment_check.proofs.ColumnLemmas.{value_suits, values_more}
 use Rattle.segment_check.proofs.columns.column_of.Goals as goal
@@ -10,8 +13,14 @@ ids-init c = record {
   values = ap (λ l. l.values) (c.in_ok-reserve.ensures ∙ c.empty_column-column.ensures);
 }
 
-pub push-requires : goal.push-requires
-push-requires c = value_suits c.args.kind c.args.dictionary.now c.ids.column.are_texts _ c.value_at.result.now c.requires.kind c.requires.stands.fit c.value_at.ensures c.ids.invariant.sort
+pub push_value-requires-clause-sort : goal.push_value-requires-clause-sort
+push_value-requires-clause-sort c =
+    let ids : List ℕ = c.args.ids.now in
+    let at : ℕ = c.ids.id-index in
+    let id : ℕ = get_or ids at 0 in
+    let values : List Value = c.args.dictionary.now.values in
+    value_suits c.args.kind c.args.dictionary.now c.ids.column.are_texts id (get_or values id (Whole (pos 0))) c.requires.kind c.requires.stands.fit
+    (slice_get-get_or values id (Whole (pos 0)) (c.requires.below at 0 c.ids-test.true)) c.ids.invariant.sort
 
 pub returns : goal.returns
 returns c =
@@ -23,8 +32,10 @@ ids-preserved c =
     let ids : List ℕ = c.args.ids.now in
     let at : ℕ = c.ids.id-index in
     let id : ℕ = get_or ids at 0 in
+    let values : List Value = c.args.dictionary.now.values in
     record {
-      sort = ap (λ l. l.are_texts) c.in_ok-push.ensures ∙ c.ids.invariant.sort;
-      values = ap (λ l. l.values) c.in_ok-push.ensures
-          ∙ values_more c.args.dictionary.now.values c.ids.column.values ids at id 0 c.value_at.result.now c.ids-test.true (get_or_default ids at 0 id c.ids-test.true) c.value_at.ensures c.ids.invariant.values;
+      sort = ap (λ l. l.are_texts) c.in_ok-push_value.ensures ∙ c.ids.invariant.sort;
+      values = ap (λ l. l.values) c.in_ok-push_value.ensures
+          ∙ values_more values c.ids.column.values ids at id 0 (get_or values id (Whole (pos 0))) c.ids-test.true (get_or_default ids at 0 id c.ids-test.true)
+          (slice_get-get_or values id (Whole (pos 0)) (c.requires.below at 0 c.ids-test.true)) c.ids.invariant.values;
     }

@@ -19,7 +19,7 @@ returns-in-Err-NotASegment g c =
     let is : c.as_str.result.now ≡ file_of name = c.as_str.ensures.value ∙ c.in_ok-file.ensures in
     let part : Part = c.in-Err-NotASegment.part in
     let fails = c.in-Err-NotASegment.field-0-is in
-    let e = c.in-Err-NotASegment.ensures in
+    let e = c.in-Err-NotASegment.ensures.checks in
     let wrong = subst (λ f. IfSome old.held (λ files. IsNoImage table name (bytes_of (Some files) f) part)) is (e.refused part fails) in
     record {
       there = tt;
