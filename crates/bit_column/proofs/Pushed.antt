@@ -1,6 +1,7 @@
 -- Bytes that are pushed after others.
 use Rattle.std.proofs.Common.{◌≡◌, ◌≤◌, ◌<◌, ℕ, ◌+◌, ◌-◌, List, [], ◌∷◌, ◌++◌, length, take, get_or, replicate, sym, ap, ◌∙◌, arith, append_assoc, append-nil, length-take}
 use Rattle.std.proofs.lemmas.List.{take-append-le, take-take, take_all, take_more}
+use Rattle.std.proofs.lemmas.List.Concat.{flat_map-append}
 use Rattle.bit_column.specs.Bits.{bits, bits_of}
 use Rattle.bit_column.proofs.BitLemmas.{bits_of-push}
 
@@ -61,3 +62,32 @@ pub none-pushed : (old out ids : List ℕ) (width have window : ℕ) → have �
 unfolding bits
 none-pushed old out ids width have window none is =
     sym (append-nil (bits_of 8 out)) ∙ ap (λ k. bits_of 8 out ++ bits k window) (sym none) ∙ is ∙ ap (λ ds. bits_of 8 old ++ ds) (sym (append-nil (bits_of width ids)))
+
+-- four whole bytes of a window
+pub four-whole : (a b c d f window : ℕ) → bits (8 + (f + 24)) window ≡ bits 8 a ++ bits (f + 24) window → bits (8 + (f + 16)) window ≡ bits 8 b ++ bits (f + 16) window
+    → bits (8 + (f + 8)) window ≡ bits 8 c ++ bits (f + 8) window → bits (8 + f) window ≡ bits 8 d ++ bits f window
+    → bits (32 + f) window ≡ bits_of 8 (a ∷ b ∷ c ∷ d ∷ []) ++ bits f window
+four-whole a b c d f window is_a is_b is_c is_d =
+    let e : bits (32 + f) window ≡ bits (8 + (f + 24)) window = ap (λ k. bits k window) (omega arith) in
+    let e2 : bits (f + 24) window ≡ bits (8 + (f + 16)) window = ap (λ k. bits k window) (omega arith) in
+    let e3 : bits (f + 16) window ≡ bits (8 + (f + 8)) window = ap (λ k. bits k window) (omega arith) in
+    let e4 : bits (f + 8) window ≡ bits (8 + f) window = ap (λ k. bits k window) (omega arith) in
+    let apart : bits_of 8 (a ∷ b ∷ c ∷ d ∷ []) ++ bits f window ≡ bits 8 a ++ (bits 8 b ++ (bits 8 c ++ (bits 8 d ++ bits f window))) =
+    append_assoc (bits 8 a) (bits 8 b ++ (bits 8 c ++ (bits 8 d ++ []))) (bits f window)
+    ∙ ap (λ ds. bits 8 a ++ ds) (append_assoc (bits 8 b) (bits 8 c ++ (bits 8 d ++ [])) (bits f window)
+    ∙ ap (λ ds. bits 8 b ++ ds) (append_assoc (bits 8 c) (bits 8 d ++ []) (bits f window)
+    ∙ ap (λ ds. bits 8 c ++ ds) (append_assoc (bits 8 d) [] (bits f window)))) in
+    e ∙ is_a ∙ ap (λ ds. bits 8 a ++ ds) (e2 ∙ is_b ∙ ap (λ ds. bits 8 b ++ ds) (e3 ∙ is_c ∙ ap (λ ds. bits 8 c ++ ds) (e4 ∙ is_d))) ∙ sym apart
+
+-- they go after the others
+pub four-pushed : (out new four : List ℕ) (have left window : ℕ) → new ≡ out ++ four → have ≡ 32 + left → bits (32 + left) window ≡ bits_of 8 four ++ bits left window
+    → bits_of 8 new ++ bits left window ≡ bits_of 8 out ++ bits have window
+four-pushed out new four have left window grown all is =
+    ap (λ xs. bits_of 8 xs ++ bits left window) grown
+    ∙ ap (λ ds. ds ++ bits left window) (flat_map-append (bits 8) out four)
+    ∙ append_assoc (bits_of 8 out) (bits_of 8 four) (bits left window)
+    ∙ ap (λ ds. bits_of 8 out ++ ds) (sym is)
+    ∙ ap (λ k. bits_of 8 out ++ bits k window) (sym all)
+
+pub begins-grown : (old new more : List ℕ) → new ≡ old ++ more → take (length old) new ≡ old
+begins-grown old new more e = ap (take (length old)) e ∙ take-append-le (length old) old more (omega arith) ∙ take_all (length old) old (omega arith)

@@ -1,5 +1,5 @@
 //! Ids are written.
-ghost use Rattle.std.specs.Prelude.{◌≡◌, ◌≤◌, ◌<◌, ◌^◌, ◌++◌, ℕ, All, length, take, replicate, OnOk, IfOk};
+ghost use Rattle.std.specs.Prelude.{◌≡◌, ◌≤◌, ◌<◌, ◌+◌, ◌^◌, ◌++◌, ℕ, All, length, take, replicate, OnOk, IfOk};
 ghost use Rattle.bit_column.specs.Bits.{bits, bits_of};
 ghost use Rattle.bit_column.specs.Column.{Appends, spelled};
 
@@ -35,15 +35,47 @@ fn push_ids(ids: &[u32], width: Width, out: &mut Vec<u8>) -> Result<(), NoMemory
     let mut have = 0;
     for id in ids {
         window = joined(window, have, *id, width);
-        match push_bytes(window, have + width.bits, out) {
+        match push_word(window, have + width.bits, out) {
             Ok(left) => have = left,
             Err(fault) => return Err(fault),
         }
     }
-    if have > 0 {
-        out.push(last_byte(window, have))?;
+    let left = push_bytes(window, have, out)?;
+    if left > 0 {
+        out.push(last_byte(window, left))?;
     }
     Ok(())
+}
+
+// Appends four whole bytes of the window, if it has as many, and says how many bits are left.
+#[inline(always)]
+fn push_word(window: u64, have: u32, out: &mut Vec<u8>) -> Result<u32, NoMemory>
+    requires { have < 64 }
+    ensures left { IfOk result (λ left. left < 32) }
+    ensures bits { IfOk result (λ left. bits_of 8 out.new.items ++ bits left window
+        ≡ bits_of 8 out.old.items ++ bits have window) }
+    ensures kept { take (length out.old.items) out.new.items ≡ out.old.items }
+{
+    if have < 32 {
+        return Ok(have);
+    }
+    let left = have - 32;
+    out.extend_from_slice(&four_bytes(window, left))?;
+    Ok(left)
+}
+
+// The four bytes of the window that so many bits follow.
+#[inline(always)]
+fn four_bytes(window: u64, following: u32) -> [u8; 4]
+    requires { following < 32 }
+    ensures { bits (32 + following) window ≡ bits_of 8 result ++ bits following window }
+{
+    [
+        whole_byte(window, following + 24),
+        whole_byte(window, following + 16),
+        whole_byte(window, following + 8),
+        whole_byte(window, following),
+    ]
 }
 
 // Appends the whole bytes of the window, and says how many bits are left.

@@ -3,6 +3,7 @@ pub mod CodedLemmas
 pub mod KeyLemmas
 pub mod ListedLemmas
 pub mod Numbers
+pub mod OrderLemmas
 pub mod Progress
 pub mod RankLemmas
 pub mod RankedValues

@@ -21,7 +21,7 @@ use Rattle.value_ids.proofs.DistinctLemmas.{nil_ascends}
 
 -- ---- above the last value
 
-less_from : (o : Ordering) → is_lt o ≡ true → o ≡ order.Less
+pub less_from : (o : Ordering) → is_lt o ≡ true → o ≡ order.Less
 less_from order.Less e = refl
 less_from order.Equal e = absurd (false≢true e)
 less_from order.Greater e = absurd (false≢true e)

@@ -9,8 +9,8 @@ ghost use Rattle.dictionary.specs.Ranking.{at_places};
 
 use crate::number_index::{CodedNumbers, code_numbers};
 use crate::number_range::{push_number, ranged_numbers};
-use crate::ranking::{Ranking, rank_numbers, rank_texts};
-use data_types::TextPool;
+use crate::ranking::{Ranking, rank_numbers};
+use crate::text_order::{TextOrder, order_texts};
 use std::alloc::Global;
 use value_ids::{ValueList, rank_places};
 use values::{Column, NoMemory, Texts};
@@ -44,23 +44,12 @@ fn coded_texts(alloc: Global, texts: &Texts) -> Result<Coded, NoMemory>
         IsCodedColumn (map value.Text texts.now) coded.values coded.ids.items) }
 {
     let (seen, ids) = texts.parts();
-    let Ranking { order, ranks } = rank_texts(alloc, seen)?;
-    let values = ValueList::of_texts(texts_at(alloc, seen, &order)?);
-    let ids = ranked(alloc, ids, &ranks)?;
-    Ok(Coded { values, ids })
-}
-
-// The texts at these places.
-fn texts_at(alloc: Global, texts: &TextPool, places: &[u32]) -> Result<TextPool, NoMemory>
-    requires { AreBelow (length texts.now) places.now }
-    ensures texts { IfOk result (λ own. own ≡ at_places [] texts.now places.now) }
-    ensures unicode { IfOk result (λ own. All IsUnicode (map value.Text own)) }
-{
-    let mut own = TextPool::new(alloc);
-    for place in places {
-        own.push(texts.text(*place as usize))?;
-    }
-    Ok(own)
+    let TextOrder { texts, ranking } = order_texts(alloc, seen)?;
+    let ids = ranked(alloc, ids, &ranking.ranks)?;
+    Ok(Coded {
+        values: ValueList::of_texts(texts),
+        ids,
+    })
 }
 
 // The rank of each of these places.

@@ -13,7 +13,9 @@ mod number_index;
 mod number_range;
 mod ranking;
 mod spelling;
+mod text_order;
 mod whole_numbers;
+mod word_order;
 
 pub use dictionary::{Dictionary, MOST_VALUES};
 pub use fault::DictFault;

@@ -87,8 +87,8 @@ fn rank_items<T: Ord + Drop>(alloc: Global, mut items: Vec<(T, u32)>) -> Result<
     Ok(Ranking { order, ranks })
 }
 
-// So many zeros.
-fn zeros(alloc: Global, count: usize) -> Result<Vec<u32>, AllocError>
+/// So many zeros.
+pub fn zeros(alloc: Global, count: usize) -> Result<Vec<u32>, AllocError>
     ensures { IfOk result (λ zeros. length zeros.items ≡ count) }
 {
     vec![in alloc; 0; count]

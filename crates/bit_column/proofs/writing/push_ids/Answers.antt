@@ -14,25 +14,25 @@ loop-id-init c = record {
 
 pub returns-in_ok-push-clause-bits : goal.returns-in_ok-push-clause-bits
 returns-in_ok-push-clause-bits c =
-    let have = c.loop-id.have in
+    let left = c.in_ok-left.left in
     let ids = c.args.ids.now in
     let all : take c.loop-id.id-index ids ≡ ids = take_all c.loop-id.id-index ids (omega arith) in
     let old = c.args.out.now.items in
-    let out = c.loop-id.out.items in
+    let out = c.push_bytes.new.out.items in
     let byte = c.last_byte.result in (
-      8 - have,
+      8 - left,
       omega arith,
       ap (bits_of 8) c.in_ok-push.ensures.items
-          ∙ last-pushed old out ids c.args.width.bits have c.loop-id.window byte (c.loop-id.invariant.bits ∙ ap (λ xs. bits_of 8 old ++ bits_of c.args.width.bits xs) all) c.last_byte.ensures,
+          ∙ last-pushed old out ids c.args.width.bits left c.loop-id.window byte (c.in_ok-left.ensures.bits ∙ c.loop-id.invariant.bits ∙ ap (λ xs. bits_of 8 old ++ bits_of c.args.width.bits xs) all) c.last_byte.ensures,
     )
 
-pub returns-else-have-gt0-clause-bits : goal.returns-else-have-gt0-clause-bits
-returns-else-have-gt0-clause-bits c =
+pub returns-else-left-gt0-clause-bits : goal.returns-else-left-gt0-clause-bits
+returns-else-left-gt0-clause-bits c =
     let ids = c.args.ids.now in
     let all : take c.loop-id.id-index ids ≡ ids = take_all c.loop-id.id-index ids (omega arith) in
     let old = c.args.out.now.items in (
       0,
       omega arith,
-      none-pushed old c.loop-id.out.items ids c.args.width.bits c.loop-id.have c.loop-id.window (omega arith)
-          (c.loop-id.invariant.bits ∙ ap (λ xs. bits_of 8 old ++ bits_of c.args.width.bits xs) all),
+      none-pushed old c.push_bytes.new.out.items ids c.args.width.bits c.in_ok-left.left c.loop-id.window (omega arith)
+          (c.in_ok-left.ensures.bits ∙ c.loop-id.invariant.bits ∙ ap (λ xs. bits_of 8 old ++ bits_of c.args.width.bits xs) all),
     )

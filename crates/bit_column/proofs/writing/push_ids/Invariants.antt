@@ -6,5 +6,5 @@ abbrev pub invariant-loop-id : goal.invariant-loop-id
 invariant-loop-id l = record {
   bits : bits_of 8 l.out.items ++ bits l.have l.window ≡ bits_of 8 l.fn.out.items ++ bits_of l.width.bits (take l.id-index l.ids);
   kept : take (length l.fn.out.items) l.out.items ≡ l.fn.out.items;
-  at_most : l.have < 8;
+  at_most : l.have < 32;
 }
