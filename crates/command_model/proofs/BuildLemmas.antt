@@ -9,7 +9,7 @@ use Rattle.outside.specs.Seen.{OnlyReads, Seen}
 use Rattle.values.specs.declared.value.Value.{Value}
 use Rattle.table_schema.specs.declared.table.Table.{Table}
 use Rattle.table_schema.specs.ValidTable.{AreRows}
-use Rattle.value_ids.specs.Dictionary.{IsUnicode}
+use Rattle.table_store.specs.Images.{IsUnicode}
 use Rattle.segment_build.specs.Growing.{TreesFit, trees_fit}
 use Rattle.segment_build.proofs.FitTests.{fit_tested}
 use Rattle.segment_file.specs.Image.{CanHold, image}

@@ -36,7 +36,7 @@ use Rattle.segment_reads.proofs.NameLemmas.{names_live}
 use Rattle.segment_head.specs.Stored.{HasImage, live, names_of, stored_rows}
 use Rattle.query_executor.specs.Stated.{IsStated, stated, stated_by}
 use Rattle.table_store.specs.Accepted.{IsAccepted, IsNoTableFile}
-use Rattle.table_store.specs.Images.{Found, IsFound, IsNoStoredImage, IsStoredImage}
+use Rattle.table_store.specs.Images.{Found, IsFound, IsNoStoredImage, IsStoredImage, SpellsNoStored, SpellsStored}
 use Rattle.table_store.specs.Segments.{AreFirstNames, HasRoom, HasSegment, IsFull, LacksSegment, has_segment, most_segments}
 use Rattle.table_store.specs.Stands.{IsSegment, Stands, segment_file, segment_of}
 use Rattle.table_store.specs.State as state
@@ -46,26 +46,28 @@ use Rattle.table_store.proofs.AcceptedLemmas.{accepted_valid, one_table}
 use Rattle.table_store.proofs.KeyLemmas.{names_stand, segment_kept_so, segment_there}
 use Rattle.table_store.proofs.CountLemmas.{names_count}
 use Rattle.table_store.proofs.DropLemmas.{drop_stands}
-use Rattle.table_store.proofs.ImageLemmas.{none_wrong, one_image}
+use Rattle.table_store.proofs.ImageLemmas.{none_unspelled, none_wrong, one_image, one_spelled}
 use Rattle.table_store.proofs.StandsLemmas.{create_stands, none_there, one_there, segment_stands, table_stands, table_there}
 use Rattle.segment_file.specs.declared.part.Part.TheVariants as parts
 use Rattle.command_model.specs.Attach.{AttachRefuses, FitsCheck, IsAttached, IsUnlikeInput, LacksInput, attached_rows, file_rows}
 use Rattle.command_model.specs.Build.{AreMany, BuildRefuses, HasPlace, IsBuilt, IsTaken, new_rows, segment_rows, table_of as table_in, with_schema, with_settings as settled}
-use Rattle.command_words.specs.Command.{Attach, Build, Command, Create, Drop, Listing, Open, Scan, Ask, Verify}
+use Rattle.command_words.specs.Command.{Attach, Build, Command, Create, Drop, Listing, Look, Open, Scan, Ask}
 use Rattle.command_model.specs.Drop.{DropRefuses, IsDropped, IsMissing}
 use Rattle.command_model.specs.Create.{Made, beside, json_bytes, json_in, new_table, read_by, schema_in, settings_in, table_of, with_settings}
 use Rattle.command_model.proofs.StoredLemmas.{table_segments}
 use Rattle.command_model.specs.Queried.{HasNoReply, HasReply, IsFaultOf, IsQueried, IsWrongImage, QueryRefuses, all_rows, rows_in}
 use Rattle.command_words.specs.declared.about.About.{About}
 use Rattle.command_words.specs.declared.about.About.TheVariants.{Plans, Rows, RowsAndPlans}
-use Rattle.command_model.specs.Ran.{Attaches, Builds, Drops, IsStepped, Lists, Over, Queries, TableIsThere, Verifies, WhereStands, files_after}
-use Rattle.command_model.specs.Verify.{IsUnlikeRows, IsVerified, VerifyRefuses, verified_text}
+use Rattle.command_words.specs.declared.aim.Aim.{Aim}
+use Rattle.command_words.specs.declared.aim.Aim.TheVariants.{Dump, Verify}
+use Rattle.command_model.specs.Ran.{Attaches, Builds, Drops, IsStepped, Lists, Looks, Over, Queries, TableIsThere, WhereStands, files_after}
+use Rattle.command_model.specs.Look.{IsLookedAt, IsUnlikeRows, LookRefuses, dumped_text, verified_text}
 use Rattle.command_model.specs.Stored.{HasRows, HasTableFile, IsListed, IsWrongSegment, SegmentsRefuse, count_in, list_text}
 use Rattle.command_words.specs.declared.note.Counted.TheVariants as counted
 use Rattle.command_words.specs.declared.note.Note.{Note}
 use Rattle.command_words.specs.declared.note.Note.TheVariants as note
 use Rattle.command_words.specs.declared.note.Note.TheVariants.{BadSchema, BadSettings}
-use Rattle.command_model.specs.Step.{After, Answer, HasStep, Refuses, Replies, attached, attached_to, built, create_answer, created, dropped, has_table, list_answer, query_answer, rows_answer, sql_answered, verified, verify_answer, with_attached, with_rows, with_table, without_segment}
+use Rattle.command_model.specs.Step.{After, Answer, HasStep, Refuses, Replies, attached, attached_to, built, create_answer, created, dropped, dump_answer, dumped_of, has_table, list_answer, look_answer, query_answer, rows_answer, sql_answered, verified, verify_answer, with_attached, with_rows, with_table, without_segment}
 
 -- ---- the texts that were made are accepted
 
@@ -459,7 +461,7 @@ query_step stored about sql (Refuses line) NoTable stands h = none_asked stored 
 query_step stored about sql (Replies text) (HasTable texts segments) stands q = query_right stored texts segments stands about sql text q
 query_step stored about sql (Refuses line) (HasTable texts segments) stands h = some_asked stored texts segments stands about sql line h
 
--- ---- `verify`
+-- ---- `verify` and `dump`
 
 counted_rows : (o : Option Segment) → count_in o ≡ length (rows_in o)
 counted_rows None = refl
@@ -492,30 +494,64 @@ module _ (stored : Files) (texts : state.Texts) (segments : Segments) (stands : 
       let (first, image_is, own) = came stored texts segments stands table accepted_so name there_so in
       absurd (none_wrong table stored name first (accepted_valid texts table accepted_so) (named_so (map.get segments name) refl taken) image_is.can image_is.stored p wrong)
 
+  -- the rows that it spells are those of the state
+  pub spelled_rows : (rows : List (List Value)) → SpellsStored table stored name rows → rows ≡ rows_in (map.get segments name)
+  spelled_rows rows is =
+      let (first, image_is, own) = came stored texts segments stands table accepted_so name there_so in
+      one_spelled table stored name first (accepted_valid texts table accepted_so) (named_so (map.get segments name) refl taken) image_is.can image_is.stored rows is ∙ own
+
+  -- and it spells some
+  pub image_spelled : {A : Type 0} (p : Part) → SpellsNoStored table stored name p → A
+  image_spelled p wrong =
+      let (first, image_is, own) = came stored texts segments stands table accepted_so name there_so in
+      absurd (none_unspelled table stored name first (accepted_valid texts table accepted_so) (named_so (map.get segments name) refl taken) image_is.can image_is.stored p wrong)
+
 module _ (stored : Files) (texts : state.Texts) (segments : Segments) (stands : Stands stored (HasTable texts segments)) (name : List ℕ) where
   by_there : (there : Bool) (answer : Answer) → is_some (map.get segments name) ≡ there → answer ≡ verified there name (count_in (map.get segments name)) → answer ≡ verify_answer (HasTable texts segments) name
   by_there there answer is same = same ∙ ap (λ b. verified b name (count_in (map.get segments name))) (sym is)
 
-  verified_right : (text : List ℕ) → IsVerified stored name text → Replies text ≡ verify_answer (HasTable texts segments) name
+  verified_right : (text : List ℕ) → IsLookedAt Verify stored name text → Replies text ≡ verify_answer (HasTable texts segments) name
   verified_right text v =
       by_there true (Replies text) (segment_taken stored texts segments stands name v.there)
-      (ap Replies (v.text_is ∙ ap (verified_text name) (image_counts stored texts segments stands name v.table v.table_is v.there v.rows v.image)))
+      (ap Replies (v.text_is ∙ ap (verified_text name) (image_counts stored texts segments stands name v.table v.table_is v.there v.rows v.file_is)))
 
-  some_verified : (line : Note) → VerifyRefuses name stored line → Refuses line ≡ verify_answer (HasTable texts segments) name
+  some_verified : (line : Note) → LookRefuses Verify name stored line → Refuses line ≡ verify_answer (HasTable texts segments) name
   some_verified line (inl h) = some_refused stored texts segments stands line (table_segments stored line h)
   some_verified line (inr (inl m)) = by_there false (Refuses line) (ap is_some (segment_lacks stored texts segments stands name m.none)) (ap Refuses m.line_is)
   some_verified line (inr (inr w)) = image_whole stored texts segments stands name w.table w.table_is w.there w.wrong w.none
 
-none_verified : (stored : Files) → Stands stored NoTable → (name : List ℕ) (line : Note) → VerifyRefuses name stored line → Refuses line ≡ verify_answer NoTable name
-none_verified stored stands name line (inl h) = none_refused stored stands line (table_segments stored line h)
-none_verified stored stands name line (inr (inl m)) = let (bytes, got, is) = m.table_is in none_there stored stands (bytes, got)
-none_verified stored stands name line (inr (inr w)) = let (bytes, got, is) = w.table_is in none_there stored stands (bytes, got)
+  dumped_by : (o : Option Segment) (table : Table) (rows : List (List Value)) (text : List ℕ) → is_some o ≡ true → rows ≡ rows_in o → text ≡ dumped_text table rows → Replies text ≡ dumped_of name o (Some table)
+  dumped_by None table rows text some are is = absurd cc
+  dumped_by (Some segment) table rows text some are is = ap Replies (is ∙ ap (dumped_text table) are)
 
-verify_step : (stored : Files) (name : List ℕ) (answer : Answer) (before : State) → Stands stored before → Verifies name stored answer → answer ≡ verify_answer before name
-verify_step stored name (Replies text) NoTable stands v = let (bytes, got, is) = v.table_is in none_there stored stands (bytes, got)
-verify_step stored name (Refuses line) NoTable stands h = none_verified stored stands name line h
-verify_step stored name (Replies text) (HasTable texts segments) stands v = verified_right stored texts segments stands name text v
-verify_step stored name (Refuses line) (HasTable texts segments) stands h = some_verified stored texts segments stands name line h
+  -- the table of the state is the one of the store
+  by_table_of : (table : Table) (answer : Answer) → HasTableFile stored table → answer ≡ dumped_of name (map.get segments name) (Some table) → answer ≡ dump_answer (HasTable texts segments) name
+  by_table_of table answer is same = same ∙ ap (dumped_of name (map.get segments name)) (sym (read_as texts table (table_stands stored texts segments table stands is)))
+
+  dumped_right : (text : List ℕ) → IsLookedAt Dump stored name text → Replies text ≡ dump_answer (HasTable texts segments) name
+  dumped_right text v =
+      by_table_of v.table (Replies text) v.table_is
+      (dumped_by (map.get segments name) v.table v.rows text (segment_taken stored texts segments stands name v.there) (spelled_rows stored texts segments stands name v.table v.table_is v.there v.rows v.file_is) v.text_is)
+
+  some_dumped : (line : Note) → LookRefuses Dump name stored line → Refuses line ≡ dump_answer (HasTable texts segments) name
+  some_dumped line (inl h) = some_refused stored texts segments stands line (table_segments stored line h)
+  some_dumped line (inr (inl m)) =
+      by_table_of m.table (Refuses line) m.table_is (ap Refuses m.line_is ∙ ap (λ o. dumped_of name o (Some m.table)) (sym (segment_lacks stored texts segments stands name m.none)))
+  some_dumped line (inr (inr w)) = image_spelled stored texts segments stands name w.table w.table_is w.there w.wrong w.none
+
+none_looked : (stored : Files) → Stands stored NoTable → (aim : Aim) (name : List ℕ) (line : Note) → LookRefuses aim name stored line → Refuses line ≡ Refuses note.NoTable
+none_looked stored stands aim name line (inl h) = none_refused stored stands line (table_segments stored line h)
+none_looked stored stands aim name line (inr (inl m)) = let (bytes, got, is) = m.table_is in none_there stored stands (bytes, got)
+none_looked stored stands aim name line (inr (inr w)) = let (bytes, got, is) = w.table_is in none_there stored stands (bytes, got)
+
+look_step : (stored : Files) (aim : Aim) (name : List ℕ) (answer : Answer) (before : State) → Stands stored before → Looks aim name stored answer → answer ≡ look_answer aim before name
+look_step stored aim name (Replies text) NoTable stands v = let (bytes, got, is) = v.table_is in none_there stored stands (bytes, got)
+look_step stored Verify name (Refuses line) NoTable stands h = none_looked stored stands Verify name line h
+look_step stored Dump name (Refuses line) NoTable stands h = none_looked stored stands Dump name line h
+look_step stored Verify name (Replies text) (HasTable texts segments) stands v = verified_right stored texts segments stands name text v
+look_step stored Verify name (Refuses line) (HasTable texts segments) stands h = some_verified stored texts segments stands name line h
+look_step stored Dump name (Replies text) (HasTable texts segments) stands v = dumped_right stored texts segments stands name text v
+look_step stored Dump name (Refuses line) (HasTable texts segments) stands h = some_dumped stored texts segments stands name line h
 
 -- ---- `attach`
 
@@ -635,7 +671,7 @@ over_step (Some (Create schema settings)) inputs stored answer new before stands
 over_step (Some (Build name csv)) inputs stored answer new before stands builds = (nothing, tt, build_step stored name csv inputs answer new before stands builds)
 over_step (Some (Attach name file)) inputs stored answer new before stands attaches = attach_step stored name file inputs answer new before stands attaches
 over_step (Some (Drop name)) inputs stored answer new before stands drops = (nothing, tt, drop_step stored name answer new before stands drops)
-over_step (Some (Verify name)) inputs stored answer new before stands (verifies, same) = (nothing, tt, record { answers = verify_step stored name answer before stands verifies; stands = stays stored before new stands same })
+over_step (Some (Look aim name)) inputs stored answer new before stands (looks, same) = (nothing, tt, record { answers = look_step stored aim name answer before stands looks; stands = stays stored before new stands same })
 over_step (Some Listing) inputs stored answer new before stands (lists, same) = (nothing, tt, record { answers = list_step stored answer before stands lists; stands = stays stored before new stands same })
 over_step (Some (Ask about sql)) inputs stored answer new before stands (queries, same) = (nothing, tt, record { answers = query_step stored about sql answer before stands queries; stands = stays stored before new stands same })
 over_step (Some (Open file)) inputs stored answer new before stands (answers, same) = (nothing, tt, record { answers = answers; stands = stays stored before new stands same })

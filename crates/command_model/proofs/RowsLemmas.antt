@@ -12,7 +12,7 @@ use Rattle.values.specs.declared.value.Value.TheVariants.{Whole, Text}
 use Rattle.segment_build.specs.Growing.{trees_fit}
 use Rattle.table_schema.specs.declared.field.Field.{Field}
 use Rattle.table_schema.specs.declared.table.Table.{Table}
-use Rattle.value_ids.specs.Dictionary as dictionary
+use Rattle.table_store.specs.Images as dictionary
 use Rattle.csv_ingest.specs.Blocks.{RowsOrFault}
 use Rattle.csv_row.specs.Row.{csv_limits}
 use Rattle.csv_ingest.specs.Rows.{records_of, rows_in}

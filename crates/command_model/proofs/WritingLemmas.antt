@@ -5,7 +5,7 @@ use Rattle.std.specs.Str.{bytes_eq}
 use Rattle.outside.specs.Files.{Files}
 use Rattle.outside.specs.Seen.{Seen}
 use Rattle.table_store.specs.State.{State}
-use Rattle.command_words.specs.Command.{Attach, Ask, Build, Command, Create, Drop, Listing, Open, Scan, Verify, asks_write, by_verb, command_of, may_write, writes}
+use Rattle.command_words.specs.Command.{Attach, Ask, Build, Command, Create, Drop, Listing, Look, Open, Scan, asks_write, by_verb, command_of, may_write, writes}
 use Rattle.command_model.specs.Profile.{profile}
 use Rattle.table_store.specs.Images.{Found}
 use Rattle.command_model.specs.Step.{step_of}
@@ -20,7 +20,7 @@ step_leaves state (Some (Create schema settings)) inputs found quiet = cc
 step_leaves state (Some (Build name csv)) inputs found quiet = cc
 step_leaves state (Some (Attach name file)) inputs found quiet = cc
 step_leaves state (Some (Drop name)) inputs found quiet = cc
-step_leaves state (Some (Verify name)) inputs found quiet = refl
+step_leaves state (Some (Look aim name)) inputs found quiet = refl
 step_leaves state (Some Listing) inputs found quiet = refl
 step_leaves state (Some (Ask about sql)) inputs found quiet = refl
 step_leaves state (Some (Open file)) inputs found quiet = refl
@@ -47,7 +47,7 @@ keeps_depot (Some (Create schema settings)) old new quiet kept = cc
 keeps_depot (Some (Build name csv)) old new quiet kept = cc
 keeps_depot (Some (Attach name file)) old new quiet kept = cc
 keeps_depot (Some (Drop name)) old new quiet kept = cc
-keeps_depot (Some (Verify name)) old new quiet kept = record { held = kept.held; parts = kept.parts; writes = kept.writes }
+keeps_depot (Some (Look aim name)) old new quiet kept = record { held = kept.held; parts = kept.parts; writes = kept.writes }
 keeps_depot (Some Listing) old new quiet kept = record { held = kept.held; parts = kept.parts; writes = kept.writes }
 keeps_depot (Some (Ask about sql)) old new quiet kept = record { held = kept.held; parts = kept.parts; writes = kept.writes }
 keeps_depot (Some (Open file)) old new quiet kept = record { held = ap (λ s. s.held) kept; parts = ap (λ s. s.parts) kept; writes = ap (λ s. s.write_faults) kept }

@@ -3,7 +3,7 @@ use Rattle.std.specs.Prelude.{◌≡◌, List, length, Result, IfOk}
 use Rattle.std.specs.List.{All}
 use Rattle.values.specs.Columns.{rows_of}
 use Rattle.values.specs.declared.columns.Columns.{Columns}
-use Rattle.value_ids.specs.Dictionary as dictionary
+use Rattle.table_store.specs.Images as dictionary
 use Rattle.table_schema.specs.declared.field.Field.{Field}
 use Rattle.table_schema.specs.ValidTable.{AreRows}
 

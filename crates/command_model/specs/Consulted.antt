@@ -16,7 +16,7 @@ use Rattle.segment_head.specs.Stored.{HasImage, live}
 use Rattle.segment_head.specs.declared.stored.Stored.{Stored}
 use Rattle.table_store.specs.Segments.{AreFirstNames, LacksSegment}
 use Rattle.table_store.specs.TableFile.{table_name}
-use Rattle.command_words.specs.Command.{Ask, Command, Listing, Verify}
+use Rattle.command_words.specs.Command.{Ask, Command, Listing, Look}
 use Rattle.command_model.specs.Profile.{TableFile}
 use Rattle.command_model.specs.Stored.{HasTableFile}
 use Rattle.command_model.specs.Touched.{LogsOpened}
@@ -88,12 +88,12 @@ Consulted (Some (Ask about sql)) old new = IfSome old.depot.held
     (λ files. HasRead (ReadsAbout about sql true) files old.depot.log new.depot.log)
 Consulted command old new = Unit {0}
 
--- the most that is read of the segments for a command, however it ends: for `verify` nothing where
--- there is none of its name; the others look at none
+-- the most that is read of the segments for a command, however it ends: for `verify` and `dump`
+-- nothing where there is none of their name; the others look at none
 abbrev pub AtMostRead : Option Command → Devices → Devices → Type 0
 AtMostRead (Some (Ask about sql)) old new = ReadsStored
     (ReadsAbout about sql false) old.depot.held old.depot.log new.depot.log
-AtMostRead (Some (Verify name)) old new = IfSome old.depot.held
+AtMostRead (Some (Look aim name)) old new = IfSome old.depot.held
     (λ files. LacksSegment (Some files) name
     → LogsOpened TableFile old.depot.log new.depot.log)
 AtMostRead (Some Listing) old new = ReadsStored ReadsHeads old.depot.held old.depot.log

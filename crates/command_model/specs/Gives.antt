@@ -10,13 +10,13 @@ use Rattle.values.specs.declared.value.Value.{Value}
 use Rattle.csv_ingest.specs.Blocks.{RowsOrFault}
 use Rattle.csv_row.specs.declared.fault.CsvFault.{CsvFault}
 use Rattle.table_schema.specs.declared.table.Table.{Table}
-use Rattle.table_store.specs.Images.{IsNoStoredImage, IsStoredImage}
 use Rattle.table_store.specs.Segments.{HasSegment, LacksSegment}
 use Rattle.table_store.specs.State as state
 use Rattle.table_store.specs.TableFile.{table_file, table_name}
 use Rattle.command_model.specs.Consulted.{HasRead, ReadsAbout, ReadsStored}
 use Rattle.command_model.specs.Build.{HasPlace, PlaceRefuses, IsLineOfPlace, built_text, csv_rows}
 use Rattle.command_model.specs.Drop.{dropped_text}
+use Rattle.command_model.specs.Look.{IsFileOf, IsFileOfNone}
 use Rattle.command_model.specs.Profile.{Opens, StoreFiles, TableFile, place_refuses, query_refuses, rows_refuse, store_refuses, texts_refuse, tree_limit}
 use Rattle.command_model.specs.Queried.{IsQueried, QueryRefuses}
 use Rattle.command_model.specs.Stored.{part_text}
@@ -41,6 +41,7 @@ use Rattle.command_words.specs.Notes.{csv_note, sql_note}
 use Rattle.command_model.specs.ScanNotes.{scan_note}
 use Rattle.outside.specs.Seen.{Seen, OnlyReads}
 use Rattle.command_words.specs.declared.about.About.{About}
+use Rattle.command_words.specs.declared.aim.Aim.{Aim}
 use Rattle.command_words.specs.declared.fault.Fault.TheVariants as fault
 use Rattle.command_words.specs.declared.note.Counted.{Counted}
 use Rattle.command_words.specs.declared.note.Counted.TheVariants as counted
@@ -250,33 +251,33 @@ Publishes table name rows old new (Err (stop.Fault fault.Memory)) = new.held ≡
 
 -- ---- a segment is looked at
 
--- why the segment of this name of a table is refused: there is none, or its file is no image for
+-- why the segment of this name of a table is refused: there is none, or its file is of no rows for
 -- this part of it
-abbrev pub RefusesSegment : Table → List ℕ → Option Files → Note → Type 0
-RefusesSegment table name held (note.NoSegment none) = (none ≡ name) × LacksSegment held name
-RefusesSegment table name held (note.NotASegment of part) = (of ≡ name) × HasSegment held name
-    × IfSome held (λ files. (wrong : Part) × IsNoStoredImage table files name wrong
+abbrev pub RefusesSegment : Aim → Table → List ℕ → Option Files → Note → Type 0
+RefusesSegment aim table name held (note.NoSegment none) = (none ≡ name) × LacksSegment held name
+RefusesSegment aim table name held (note.NotASegment of part) = (of ≡ name) × HasSegment held name
+    × IfSome held (λ files. (wrong : Part) × IsFileOfNone aim table files name wrong
     × (part ≡ part_text table.schema.fields wrong))
-RefusesSegment table name held other = ⊥
+RefusesSegment aim table name held other = ⊥
 
 -- a look at a segment ends: it is refused so, or a look failed, or memory ran out
-abbrev pub StopsSegment : Table → List ℕ → Option Files → Stop → Type 0
-StopsSegment table name held (stop.Refused line) = RefusesSegment table name held line
-StopsSegment table name held (stop.Fault fault.Read) = Unit {0}
-StopsSegment table name held (stop.Fault fault.Write) = ⊥
-StopsSegment table name held (stop.Fault fault.Memory) = Unit {0}
+abbrev pub StopsSegment : Aim → Table → List ℕ → Option Files → Stop → Type 0
+StopsSegment aim table name held (stop.Refused line) = RefusesSegment aim table name held line
+StopsSegment aim table name held (stop.Fault fault.Read) = Unit {0}
+StopsSegment aim table name held (stop.Fault fault.Write) = ⊥
+StopsSegment aim table name held (stop.Fault fault.Memory) = Unit {0}
 
 -- a call read the file of a segment alone and changed nothing; where files are told, that file is
--- the image of the rows that it found, or is refused so
-pub record FindsSegment (table : Table) (name : List ℕ) (old new : Seen)
+-- of the rows that it found, or is refused so
+pub record FindsSegment (aim : Aim) (table : Table) (name : List ℕ) (old new : Seen)
     (result : Result ListedColumns Stop) : Type 0 where
   pub reads : OnlyReads (IsErrAnd result (λ s. s ≡ stop.Fault fault.Read)) old new
   pub log : LogsFile (file_of name) old.log new.log
   pub unread : IfSome old.held (λ files. LacksSegment (Some files) name → new.log ≡ old.log)
   pub there : OnOk result (HasSegment old.held name)
   pub found : IfOk result (λ t. IfSome old.held (λ files.
-      IsStoredImage table files name (rows_of t)))
-  pub stops : IfErr result (StopsSegment table name old.held)
+      IsFileOf aim table files name (rows_of t)))
+  pub stops : IfErr result (StopsSegment aim table name old.held)
 
 -- ---- a segment is dropped
 

@@ -14,6 +14,6 @@ pub mod Ran
 pub mod Step
 pub mod Stored
 pub mod Touched
-pub mod Verify
+pub mod Look
 pub mod World
 pub mod ScanNotes

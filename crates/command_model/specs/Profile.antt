@@ -5,7 +5,7 @@ use Rattle.csv_ingest.specs.Blocks as csv
 use Rattle.segment_file.specs.Names.{file_of}
 use Rattle.segment_file.specs.Trees as trees
 use Rattle.table_store.specs.TableFile.{table_name, text_limit}
-use Rattle.command_words.specs.Command.{Attach, Build, Command, Create, Drop, Listing, Open, Scan, Ask, Verify}
+use Rattle.command_words.specs.Command.{Attach, Build, Command, Create, Drop, Listing, Look, Open, Scan, Ask}
 use Rattle.command_words.specs.declared.about.About.{About}
 use Rattle.command_words.specs.declared.about.About.TheVariants.{Plans, Rows, RowsAndPlans}
 use Rattle.command_words.specs.declared.note.Counted.{Counted}
@@ -217,7 +217,7 @@ profile (Some (Drop name)) =
       replies = true;
       refuses = segment_refuses;
     }
-profile (Some (Verify name)) =
+profile (Some (Look aim name)) =
     record {
       files = [];
       store = Looks (SegmentFile name);

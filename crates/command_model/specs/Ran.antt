@@ -10,7 +10,7 @@ use Rattle.table_store.specs.Segments.{HasSegment, IsFull, LacksSegment, most_se
 use Rattle.table_store.specs.TableFile.{table_file, table_name, text_limit}
 use Rattle.command_model.specs.Attach.{AttachRefuses, IsAttached, IsUnlikeInput}
 use Rattle.command_model.specs.Build.{BuildRefuses, IsBuilt}
-use Rattle.command_words.specs.Command.{Attach, Build, Command, Create, Drop, Listing, Open, Scan, Ask, Verify}
+use Rattle.command_words.specs.Command.{Attach, Build, Command, Create, Drop, Listing, Look, Open, Scan, Ask}
 use Rattle.command_model.specs.Consulted.{AtMostRead, Consulted}
 use Rattle.command_model.specs.Create.{Made, new_table}
 use Rattle.command_model.specs.Drop.{DropRefuses, IsDropped}
@@ -19,9 +19,10 @@ use Rattle.command_model.specs.Queried.{IsQueried, IsWrongImage, QueryRefuses}
 use Rattle.command_model.specs.Step.{After, Answer, HasStep, Refuses, Replies, create_answer, scan_answer, script_answer}
 use Rattle.command_model.specs.Stored.{IsListed, IsWrongSegment, IsWrongTable, SegmentsRefuse}
 use Rattle.command_model.specs.Touched.{ReadsFront, Touched}
-use Rattle.command_model.specs.Verify.{IsUnlikeRows, IsVerified, VerifyRefuses}
+use Rattle.command_model.specs.Look.{IsLookedAt, IsUnlikeRows, LookRefuses}
 use Rattle.command_model.specs.World.{Devices}
 use Rattle.command_words.specs.declared.about.About.{About}
+use Rattle.command_words.specs.declared.aim.Aim.{Aim}
 use Rattle.command_words.specs.declared.fault.Fault.{Fault}
 use Rattle.command_words.specs.declared.fault.Fault.TheVariants as fault
 use Rattle.command_words.specs.declared.note.Counted.TheVariants as counted
@@ -89,10 +90,10 @@ abbrev pub Drops : List ℕ → Files → Answer → Option Files → Type 0
 Drops name files (Replies text) new = IsDropped files name text new
 Drops name files (Refuses line) new = DropRefuses name files line × (new ≡ Some files)
 
--- what `verify` answers of any published files
-abbrev pub Verifies : List ℕ → Files → Answer → Type 0
-Verifies name files (Replies text) = IsVerified files name text
-Verifies name files (Refuses line) = VerifyRefuses name files line
+-- what `verify` and `dump` answer of any published files
+abbrev pub Looks : Aim → List ℕ → Files → Answer → Type 0
+Looks aim name files (Replies text) = IsLookedAt aim files name text
+Looks aim name files (Refuses line) = LookRefuses aim name files line
 
 -- what a command does over any store
 abbrev pub Over : Option Command → Files → Option Files → Answer → Option Files → Type 0
@@ -106,8 +107,8 @@ Over (Some (Build name csv)) inputs old answer new = IfSome old
 Over (Some (Attach name file)) inputs old answer new = IfSome old
     (λ files. Attaches name file inputs files answer new)
 Over (Some (Drop name)) inputs old answer new = IfSome old (λ files. Drops name files answer new)
-Over (Some (Verify name)) inputs old answer new = IfSome old (λ files. Verifies name files answer)
-    × (new ≡ old)
+Over (Some (Look aim name)) inputs old answer new = IfSome old
+    (λ files. Looks aim name files answer) × (new ≡ old)
 Over (Some Listing) inputs old answer new = IfSome old (λ files. Lists files answer) × (new ≡ old)
 Over (Some (Ask about sql)) inputs old answer new = IfSome old
     (λ files. Queries about sql files answer) × (new ≡ old)
@@ -128,21 +129,21 @@ Finds (Some (Build name csv)) inputs stored line = IfSome stored
     (λ files. BuildRefuses name csv inputs files line)
 Finds (Some (Attach name file)) inputs stored line = ⊥
 Finds (Some (Drop name)) inputs stored line = ⊥
-Finds (Some (Verify name)) inputs stored line = ⊥
+Finds (Some (Look aim name)) inputs stored line = ⊥
 Finds (Some Listing) inputs stored line = ⊥
 Finds (Some (Ask about sql)) inputs stored line = IfSome stored
     (λ files. QueryRefuses about sql files line)
 Finds (Some (Open file)) inputs stored line = script_answer file (map.get inputs file)
     ≡ Refuses line
 
--- a published file is not what it stands for; only `verify`, `list`, `query`, `explain` and `stats`
--- look at those of segments. For `attach` it may be the input file that is no segment's
+-- a published file is not what it stands for; only `verify`, `dump`, `list`, `query`, `explain` and
+-- `stats` look at those of segments. For `attach` it may be the input file that is no segment's
 abbrev pub IsWrong : Option Command → Option Files → Files → List ℕ → List ℕ → Type 0
 IsWrong (Some (Attach asked file)) inputs files name part = IsWrongTable files name part
     ⊎ IfSome inputs (λ given.
     IsUnlikeInput given files asked file (note.NotASegment name part))
-IsWrong (Some (Verify asked)) inputs files name part = IsWrongTable files name part
-    ⊎ IsUnlikeRows files asked (note.NotASegment name part)
+IsWrong (Some (Look aim asked)) inputs files name part = IsWrongTable files name part
+    ⊎ IsUnlikeRows aim files asked (note.NotASegment name part)
 IsWrong (Some Listing) inputs files name part = IsWrongTable files name part
     ⊎ IsWrongSegment files name part
 IsWrong (Some (Ask about sql)) inputs files name part = IsWrongTable files name part
@@ -154,7 +155,7 @@ abbrev pub IsNameIn : Option Command → List ℕ → Type 0
 IsNameIn (Some (Build name csv)) other = other ≡ name
 IsNameIn (Some (Attach name file)) other = other ≡ name
 IsNameIn (Some (Drop name)) other = other ≡ name
-IsNameIn (Some (Verify name)) other = other ≡ name
+IsNameIn (Some (Look aim name)) other = other ≡ name
 IsNameIn command other = ⊥
 
 -- what is told of the devices where a command is refused so: of the store, or of the bytes of files

@@ -6,23 +6,25 @@ use Rattle.outside.specs.Files.{Files}
 use Rattle.values.specs.declared.value.Value.{Value}
 use Rattle.table_schema.specs.declared.table.Table.{Table}
 use Rattle.table_store.specs.Stands.{segment_of}
-use Rattle.table_store.specs.State.{Segments, State, Texts, NoTable, HasTable}
+use Rattle.table_store.specs.State.{Segment, Segments, State, Texts, NoTable, HasTable}
 use Rattle.table_store.specs.TableFile.{table_name}
 use Rattle.table_store.specs.Images.{Found}
 use Rattle.command_model.specs.Attach.{FitsCheck, attached_rows, attached_text}
 use Rattle.command_model.specs.Build.{built_text, new_rows, table_of}
-use Rattle.command_words.specs.Command.{Attach, Build, Command, Create, Drop, Listing, Open, Scan, Ask, Verify, command_of}
+use Rattle.command_words.specs.Command.{Attach, Build, Command, Create, Drop, Listing, Look, Open, Scan, Ask, command_of}
 use Rattle.command_model.specs.Create.{Made, new_table}
 use Rattle.command_model.specs.Drop.{dropped_text}
 use Rattle.sql_reply.specs.SqlReply.{SqlReply}
 use Rattle.text_scan.specs.TextReply.{TextReply, text_reply}
 use Rattle.command_model.specs.Stored.{count_in, listed}
-use Rattle.command_model.specs.Verify.{verified_text}
+use Rattle.command_model.specs.Look.{dumped_text, verified_text}
 use Rattle.command_model.specs.Queried.{reply_about}
 use Rattle.command_words.specs.Notes.{sql_note, status_of, note_text}
 use Rattle.command_model.specs.ScanNotes.{scan_note}
 use Rattle.command_model.specs.Profile.{csv_limit, script_limit}
 use Rattle.command_words.specs.declared.about.About.{About}
+use Rattle.command_words.specs.declared.aim.Aim.{Aim}
+use Rattle.command_words.specs.declared.aim.Aim.TheVariants.{Dump, Verify}
 use Rattle.command_words.specs.declared.note.Counted.TheVariants as counted
 use Rattle.command_words.specs.declared.note.Note.{Note}
 use Rattle.command_words.specs.declared.note.Note.TheVariants as note
@@ -107,6 +109,27 @@ abbrev pub verify_answer : State → List ℕ → Answer
 verify_answer NoTable name = Refuses note.NoTable
 verify_answer (HasTable texts segments) name = verified (is_some (map.get segments name)) name
     (count_in (map.get segments name))
+
+-- the answer to `dump` where there is a table, by its segment of the name
+abbrev pub dumped : Table → List ℕ → Option Segment → Answer
+dumped table name (Some segment) = Replies (dumped_text table segment.rows)
+dumped table name None = Refuses (note.NoSegment name)
+
+-- the same by the table; the texts of a store always have one
+abbrev pub dumped_of : List ℕ → Option Segment → Option Table → Answer
+dumped_of name segment None = Refuses (note.NotASegment table_name (codes "table"))
+dumped_of name segment (Some table) = dumped table name segment
+
+-- the answer to `dump`
+abbrev pub dump_answer : State → List ℕ → Answer
+dump_answer NoTable name = Refuses note.NoTable
+dump_answer (HasTable texts segments) name = dumped_of name (map.get segments name)
+    (table_of texts)
+
+-- the answer to `verify` and `dump`
+abbrev pub look_answer : Aim → State → List ℕ → Answer
+look_answer Verify state name = verify_answer state name
+look_answer Dump state name = dump_answer state name
 
 -- what a query over rows answers: its reply, or a refusal
 abbrev pub sql_answered : SqlReply → Answer
@@ -224,8 +247,8 @@ step_of state (Some (Create schema settings)) inputs found =
 step_of state (Some (Build name csv)) inputs found = built state name csv inputs
 step_of state (Some (Attach name file)) inputs found = attached state name file inputs found
 step_of state (Some (Drop name)) inputs found = dropped state name
-step_of state (Some (Verify name)) inputs found = record {
-  answer = verify_answer state name;
+step_of state (Some (Look aim name)) inputs found = record {
+  answer = look_answer aim state name;
   state = state;
 }
 step_of state (Some Listing) inputs found = record { answer = list_answer state; state = state }

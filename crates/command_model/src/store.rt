@@ -4,20 +4,24 @@ ghost use Rattle.std.specs.List.{All};
 ghost use Rattle.outside.specs.Seen.{seen};
 ghost use Rattle.segment_file.specs.Names.{IsSegmentName, IsSegmentOf};
 ghost use Rattle.table_schema.specs.ValidTable.{IsValidTable};
-ghost use Rattle.table_store.specs.Calls.{IsCheckFault};
+ghost use Rattle.values.specs.Columns.{rows_of};
+ghost use Rattle.table_store.specs.Calls.{IsCheckFault, LooksAtSegment};
 ghost use Rattle.table_store.specs.Segments.{AreFirstNames};
 ghost use Rattle.table_store.specs.TableFile.{table_name};
 ghost use Rattle.command_model.specs.Gives.{FindsPlace, FindsSegment, IsCheckStop, IsLookFault, IsMissingStop, IsStopOf, IsTakenStop, LooksFor};
+ghost use Rattle.command_model.specs.Look.{IsFileOf, IsFileOfNone};
 ghost use Rattle.command_model.specs.Places.{IsPlaceFault, IsPlaceStop};
 ghost use Rattle.command_model.specs.Profile.{TableFile};
 ghost use Rattle.command_model.specs.Stored.{HasTableFile, TableRefuses};
 
 use crate::segment_stop;
-use command_words::{Counted, Fault, Note, Stop};
+use command_words::{Aim, Counted, Fault, Note, Stop};
 use outside::{Depot, Name, Seq};
 use std::alloc::{AllocError, Global};
 use table_schema::Table;
-use table_store::{MOST_SEGMENTS, StoreFault, check_segment, find_room, open_table, segment_names};
+use table_store::{
+    MOST_SEGMENTS, StoreFault, check_segment, find_room, open_table, segment_names, spell_segment,
+};
 use values::Columns;
 
 /// The table of the store.
@@ -57,20 +61,41 @@ pub fn table_with_place<D: Depot>(alloc: Global, name: &str, depot: &mut D) -> R
     }
 }
 
-/// The rows of the segment of this name, column by column, where its file is their image.
+/// The rows of the segment of this name, column by column, where its file is of them: their image,
+/// or for `dump` one that spells them.
 pub fn stored_rows<D: Depot>(
     alloc: Global,
+    aim: Aim,
     table: &Table,
     name: &str,
     depot: &mut D,
 ) -> Result<Columns, Stop>
     requires { IsSegmentOf table.now name.now }
-    ensures { FindsSegment table.now name.now
+    ensures { FindsSegment aim table.now name.now
         (seen D.Shelf depot.old) (seen D.Shelf depot.new) result }
 {
-    match check_segment(alloc, depot, table, name) {
+    match look_at(alloc, aim, table, name, depot) {
         Ok(columns) => Ok(columns),
         Err(fault) => Err(no_image(alloc, table, name, fault)),
+    }
+}
+
+// The rows of the segment of this name, by the store.
+fn look_at<D: Depot>(
+    alloc: Global,
+    aim: Aim,
+    table: &Table,
+    name: &str,
+    depot: &mut D,
+) -> Result<Columns, StoreFault>
+    requires { IsSegmentOf table.now name.now }
+    ensures { LooksAtSegment (λ files rows. IsFileOf aim table.now files name.now rows)
+        (λ files part. IsFileOfNone aim table.now files name.now part) name.now
+        (seen D.Shelf depot.old) (seen D.Shelf depot.new) result }
+{
+    match aim {
+        Aim::Verify => check_segment(alloc, depot, table, name),
+        Aim::Dump => spell_segment(alloc, depot, table, name),
     }
 }
 

@@ -4,6 +4,8 @@ use Rattle.std.specs.Str.{bytes_eq}
 use Rattle.segment_file.specs.Names.{is_segment_name}
 use Rattle.command_words.specs.declared.about.About.{About}
 use Rattle.command_words.specs.declared.about.About.TheVariants.{Plans, Rows, RowsAndPlans}
+use Rattle.command_words.specs.declared.aim.Aim.{Aim}
+use Rattle.command_words.specs.declared.aim.Aim.TheVariants.{Dump, Verify}
 
 -- what the words of a command ask for
 pub data Command : Type 0 where
@@ -11,7 +13,7 @@ pub data Command : Type 0 where
   Create : (schema settings : List ℕ) → Command
   Build : (name csv : List ℕ) → Command
   Drop : (name : List ℕ) → Command
-  Verify : (name : List ℕ) → Command
+  Look : (aim : Aim) (name : List ℕ) → Command
   Attach : (name file : List ℕ) → Command
   Listing : Command
   Ask : (about : About) (sql : List ℕ) → Command
@@ -26,7 +28,8 @@ command_of (verb ∷ first ∷ []) =
     else if bytes_eq verb (codes "explain") then Some (Ask Plans first)
     else if bytes_eq verb (codes "stats") then Some (Ask RowsAndPlans first)
     else if bytes_eq verb (codes "drop") && is_segment_name first then Some (Drop first)
-    else if bytes_eq verb (codes "verify") && is_segment_name first then Some (Verify first)
+    else if bytes_eq verb (codes "verify") && is_segment_name first then Some (Look Verify first)
+    else if bytes_eq verb (codes "dump") && is_segment_name first then Some (Look Dump first)
     else None
 command_of (verb ∷ first ∷ second ∷ []) =
     if bytes_eq verb (codes "scan") then Some (Scan first second)
@@ -43,7 +46,7 @@ writes (Some (Build name csv)) = true
 writes (Some (Attach name file)) = true
 writes (Some (Drop name)) = true
 writes (Some (Scan file sql)) = false
-writes (Some (Verify name)) = false
+writes (Some (Look aim name)) = false
 writes (Some Listing) = false
 writes (Some (Ask about sql)) = false
 writes (Some (Open file)) = false

@@ -10,7 +10,7 @@ command_view (code.Scan file sql) = spec.Scan file.now sql.now
 command_view (code.Create schema settings) = spec.Create schema.now settings.now
 command_view (code.Build name csv) = spec.Build name.now csv.now
 command_view (code.Drop name) = spec.Drop name.now
-command_view (code.Verify name) = spec.Verify name.now
+command_view (code.Look aim name) = spec.Look aim name.now
 command_view (code.Attach name file) = spec.Attach name.now file.now
 command_view code.List = spec.Listing
 command_view (code.Ask about sql) = spec.Ask about sql.now
@@ -19,6 +19,6 @@ command_view (code.Ask about sql) = spec.Ask about sql.now
 abbrev pub IsNamed : Command → Type 0
 IsNamed (code.Build name csv) = IsSegmentName name.now
 IsNamed (code.Drop name) = IsSegmentName name.now
-IsNamed (code.Verify name) = IsSegmentName name.now
+IsNamed (code.Look aim name) = IsSegmentName name.now
 IsNamed (code.Attach name file) = IsSegmentName name.now
 IsNamed other = Unit {0}

@@ -4,6 +4,7 @@ ghost use Rattle.command_words.specs.Command.{One, Script, call_of, command_of, 
 ghost use Rattle.command_words.specs.CommandView.{IsNamed, command_view};
 
 use crate::about::About;
+use crate::aim::Aim;
 use segment_file::is_segment_name;
 
 /// What the words of a command ask for.
@@ -17,8 +18,8 @@ pub enum Command<'a> {
     Build(&'a str, &'a str),
     /// A segment that is to go: its name.
     Drop(&'a str),
-    /// A segment whose file is to be looked at whole: its name.
-    Verify(&'a str),
+    /// A segment whose file is to be looked at: what for, and its name.
+    Look(Aim, &'a str),
     /// A segment from the file of one: its name and the file's.
     Attach(&'a str, &'a str),
     /// The segments.
@@ -51,7 +52,10 @@ pub fn read_command(words: &[String]) -> Option<Command<'_>>
             return Some(Command::Drop(first.as_str()));
         }
         if verb.as_str().as_bytes() == b"verify".as_slice() && is_segment_name(first.as_str()) {
-            return Some(Command::Verify(first.as_str()));
+            return Some(Command::Look(Aim::Verify, first.as_str()));
+        }
+        if verb.as_str().as_bytes() == b"dump".as_slice() && is_segment_name(first.as_str()) {
+            return Some(Command::Look(Aim::Dump, first.as_str()));
         }
     }
     if let [verb, first, second] = words {
@@ -97,7 +101,7 @@ pub fn may_write(words: &[String]) -> bool
         Some(
             Command::Create(_, _) | Command::Build(_, _) | Command::Attach(_, _) | Command::Drop(_),
         ) => true,
-        Some(Command::Scan(_, _) | Command::Verify(_) | Command::List | Command::Ask(_, _))
+        Some(Command::Scan(_, _) | Command::Look(_, _) | Command::List | Command::Ask(_, _))
         | None => false,
     }
 }

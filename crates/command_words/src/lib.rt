@@ -2,6 +2,7 @@
 #![tactic(auto)]
 
 mod about;
+mod aim;
 mod bad_query;
 mod command;
 mod fault;
@@ -11,6 +12,7 @@ mod status;
 mod stop;
 
 pub use about::About;
+pub use aim::Aim;
 pub use bad_query::QueryReason;
 pub use command::{Command, may_write, read_command, script_file};
 pub use fault::Fault;

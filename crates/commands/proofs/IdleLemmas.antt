@@ -9,7 +9,7 @@ use Rattle.segment_reads.proofs.LogLemmas.{same_log}
 use Rattle.star_answer.specs.DocLaws.{DocsAreBounded}
 use Rattle.table_store.specs.Segments.{LacksSegment}
 use Rattle.table_store.specs.TableFile.{table_name}
-use Rattle.command_words.specs.Command.{Ask, Attach, Build, Command, Create, Drop, Listing, Open, Scan, Verify}
+use Rattle.command_words.specs.Command.{Ask, Attach, Build, Command, Create, Drop, Listing, Look, Open, Scan}
 use Rattle.command_words.specs.declared.fault.Fault.TheVariants as fault
 use Rattle.command_words.specs.declared.stop.Stop.TheVariants as stop
 use Rattle.command_model.specs.Consulted.{AtMostRead}
@@ -42,7 +42,7 @@ touched (Some (Create schema settings)) now = record { inputs = no_files schema 
 touched (Some (Build name csv)) now = record { inputs = (now.inputs, no_front csv csv_limit now.inputs, refl); depot = writes TableFile (file_of name ∷ []) now.depot }
 touched (Some (Attach name file)) now = record { inputs = (now.inputs, no_file file now.inputs, refl); depot = writes TableFile (file_of name ∷ []) now.depot }
 touched (Some (Drop name)) now = record { inputs = refl; depot = writes TableFile (file_of name ∷ []) now.depot }
-touched (Some (Verify name)) now = record { inputs = refl; depot = looks (SegmentFile name) now.depot }
+touched (Some (Look aim name)) now = record { inputs = refl; depot = looks (SegmentFile name) now.depot }
 touched (Some Listing) now = record { inputs = refl; depot = looks StoreFiles now.depot }
 touched (Some (Ask about sql)) now = record { inputs = refl; depot = looks StoreFiles now.depot }
 touched (Some (Open file)) now = record { inputs = (now.inputs, no_front file script_limit now.inputs, refl); depot = refl }
@@ -54,7 +54,7 @@ at_most law (Some (Create schema settings)) now = tt
 at_most law (Some (Build name csv)) now = tt
 at_most law (Some (Attach name file)) now = tt
 at_most law (Some (Drop name)) now = tt
-at_most law (Some (Verify name)) now = told_all now.depot.held (λ files. LacksSegment (Some files) name → LogsOpened TableFile now.depot.log now.depot.log) (λ files lacks. none_opened TableFile now.depot.log)
+at_most law (Some (Look aim name)) now = told_all now.depot.held (λ files. LacksSegment (Some files) name → LogsOpened TableFile now.depot.log now.depot.log) (λ files lacks. none_opened TableFile now.depot.log)
 at_most law (Some Listing) now = stored_heads now.depot.held now.depot.log now.depot.log (unread now.depot.log now.depot.log refl)
 at_most law (Some (Ask about sql)) now = stored_table law about sql now.depot.held now.depot.log now.depot.log (unread now.depot.log now.depot.log refl)
 at_most law (Some (Open file)) now = tt

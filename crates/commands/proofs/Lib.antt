@@ -1,9 +1,9 @@
 pub mod ScanLemmas
 pub mod ReadLemmas
 pub mod ListLemmas
+pub mod LookLemmas
 pub mod QueryLemmas
 pub mod DropLemmas
 pub mod ScriptLemmas
 pub mod IdleLemmas
-pub mod VerifyLemmas
 pub mod AttachLemmas

@@ -7,7 +7,7 @@ pub mod create;
 pub mod drop;
 pub mod laws;
 pub mod list;
+pub mod look;
 pub mod query;
 pub mod scan;
 pub mod script;
-pub mod verify;

@@ -28,8 +28,9 @@ use Rattle.segment_reads.proofs.LogLemmas.{same_log}
 use Rattle.table_store.specs.Accepted.{IsAccepted}
 use Rattle.table_store.specs.Stands.{segment_of}
 use Rattle.table_store.specs.State.{HasTable, Segment, Segments, State, Texts}
-use Rattle.command_words.specs.Command.{Ask, Attach, Build, Command, Create, Drop, Listing, Open, Scan as ScanFile, Verify}
+use Rattle.command_words.specs.Command.{Ask, Attach, Build, Command, Create, Drop, Listing, Look, Open, Scan as ScanFile}
 use Rattle.command_words.specs.Notes.{is_fault}
+use Rattle.command_words.specs.declared.aim.Aim.{Aim}
 use Rattle.command_words.specs.declared.about.About.TheVariants.{Plans, Rows, RowsAndPlans}
 use Rattle.command_words.specs.declared.status.Status.{Status}
 use Rattle.command_words.specs.declared.status.Status.TheVariants as status
@@ -98,10 +99,10 @@ module _ (table : Table) (name : List ℕ) (rows : List (List Value)) where
   of_query done x (Err wrong) r = none_of done x r
 
   -- one that looks at the whole file of a segment looks at that of another
-  of_other : (asked : List ℕ) → goes_by_plan name (Some (Verify asked)) ≡ true → name ≢ asked
-  of_other asked keeps same =
+  of_other : (aim : Aim) (asked : List ℕ) → goes_by_plan name (Some (Look aim asked)) ≡ true → name ≢ asked
+  of_other aim asked keeps same =
       let test : bytes_eq asked name ≡ true = (bytes_eq-Decides asked name).1 (sym same) in
-      let no : goes_by_plan name (Some (Verify asked)) ≡ false = ap not test in
+      let no : goes_by_plan name (Some (Look aim asked)) ≡ false = ap not test in
       let both : true ≡ false = sym keeps ∙ no in
       absurd cc
 
@@ -112,7 +113,7 @@ module _ (table : Table) (name : List ℕ) (rows : List (List Value)) where
   of_line (Some (Build other csv)) done x keeps r = none_of done x r
   of_line (Some (Attach other file)) done x keeps r = none_of done x r
   of_line (Some (Drop other)) done x keeps r = none_of done x r
-  of_line (Some (Verify asked)) done x keeps r = none_of done x (r (of_other asked keeps))
+  of_line (Some (Look aim asked)) done x keeps r = none_of done x (r (of_other aim asked keeps))
   of_line (Some Listing) done x keeps r = none_of done x r
   of_line (Some (Ask Rows sql)) done x keeps r = of_query done x (asked table false sql) r
   of_line (Some (Ask Plans sql)) done x keeps r = none_of done x r

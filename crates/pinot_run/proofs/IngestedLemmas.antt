@@ -20,7 +20,7 @@ use Rattle.table_store.specs.State.{HasTable, NoTable, Segment, Segments, State,
 use Rattle.table_store.proofs.DropLemmas.{got_left, got_none}
 use Rattle.table_store.proofs.FilesLemmas.{other_name}
 use Rattle.table_store.proofs.NameLemmas.{is_name}
-use Rattle.command_words.specs.Command.{Ask, Attach, Build, Command, Create, Drop, Listing, Open, Scan, Verify}
+use Rattle.command_words.specs.Command.{Ask, Attach, Build, Command, Create, Drop, Listing, Look, Open, Scan}
 use Rattle.command_words.specs.declared.about.About.TheVariants.{Rows, RowsAndPlans}
 use Rattle.command_words.specs.declared.note.Note.{Note}
 use Rattle.command_words.specs.declared.status.Status.{Status}
@@ -201,7 +201,7 @@ changes NoTable (Some (Attach name file)) files found fits = inl refl
 changes (HasTable texts segments) (Some (Attach name file)) files found fits = attached_changes name file files texts segments found fits (table_of texts) refl
 changes NoTable (Some (Drop name)) files found fits = inl refl
 changes (HasTable texts segments) (Some (Drop name)) files found fits = dropped_changes name files texts segments (is_some (map.get segments name)) refl
-changes from (Some (Verify name)) files found fits = inl refl
+changes from (Some (Look aim name)) files found fits = inl refl
 changes from (Some Listing) files found fits = inl refl
 changes from (Some (Ask about sql)) files found fits = inl refl
 changes from (Some (Open file)) files found fits = inl refl

@@ -39,7 +39,7 @@ use Rattle.table_store.proofs.AcceptedLemmas.{accepted_valid}
 use Rattle.table_store.proofs.KeyLemmas.{keys_stand, segment_there}
 use Rattle.table_store.proofs.NameLemmas.{is_name, tied_name}
 use Rattle.table_store.proofs.StandsLemmas.{table_there}
-use Rattle.command_words.specs.Command.{Ask, Attach, Build, Command, Create, Drop, Listing, Open, Scan, Verify}
+use Rattle.command_words.specs.Command.{Ask, Attach, Build, Command, Create, Drop, Listing, Look, Open, Scan}
 use Rattle.command_model.specs.Consulted.{Consulted, IsFileAmong, ReadsAbout, ReadsAsked, ReadsEach, ReadsHeads, ReadsStored}
 use Rattle.pinot_run.specs.Laws.{IsLiveFile, ReadsFor, ReadsSegment, ReadsState, SegmentsRead, is_done}
 use Rattle.command_words.specs.Notes.{status_of}
@@ -51,6 +51,7 @@ use Rattle.command_model.specs.Step.{Answer, Refuses, Replies, status_after}
 use Rattle.command_model.specs.Stored.{HasTableFile}
 use Rattle.command_model.specs.Touched.{IsFileFor, LogsOpened}
 use Rattle.command_model.specs.World.{Devices, World}
+use Rattle.command_words.specs.declared.aim.Aim.{Aim}
 use Rattle.command_words.specs.declared.about.About.{About}
 use Rattle.command_words.specs.declared.about.About.TheVariants.{Plans, Rows, RowsAndPlans}
 use Rattle.command_words.specs.declared.note.Note.{Note}
@@ -215,7 +216,7 @@ module _ (stored : Files) (texts : state.Texts) (segments : Segments) (stands : 
         → ReadsState command done table segments a b
     table_state command done to log = none_read command done to (table_heads table stored (map.keys segments) a b log)
 
-    -- what `verify` reads, by whether there is a segment of its name: of no other segment anything
+    -- what `verify` and `dump` read, by whether there is a segment of its name: of no other segment anything
     own_file : (asked : List ℕ) → is_some (map.get segments asked) ≡ true → (file : List ℕ) → IsFileFor asked file → IsLiveFile segments file
     own_file asked some file (inl is) = inl is
     own_file asked some file (inr is) = inr (asked, some, is)
@@ -224,14 +225,14 @@ module _ (stored : Files) (texts : state.Texts) (segments : Segments) (stands : 
     other_file asked name apart file (inl is) = λ same. not_table name (sym same ∙ is)
     other_file asked name apart file (inr is) = λ same. apart (same_name name asked (sym same ∙ is))
 
-    verify_state : (asked : List ℕ) (done : Bool) (o : Option Segment) → map.get segments asked ≡ o → LogsOpened (SegmentFile asked) a b → (LacksSegment (Some stored) asked → LogsOpened TableFile a b) → ReadsState (Some (Verify asked)) done table segments a b
-    verify_state asked done None got log none =
+    look_state : (aim : Aim) (asked : List ℕ) (done : Bool) (o : Option Segment) → map.get segments asked ≡ o → LogsOpened (SegmentFile asked) a b → (LacksSegment (Some stored) asked → LogsOpened TableFile a b) → ReadsState (Some (Look aim asked)) done table segments a b
+    look_state aim asked done None got log none =
         let lacks : LacksSegment (Some stored) asked = segment_there stored texts segments stands asked ∙ ap (option_map (segment_file stands.table asked)) got in
-        none_read (Some (Verify asked)) done (λ name rows entries h other. h) (table_heads table stored (map.keys segments) a b (none lacks))
-    verify_state asked done (Some segment) got (x, made, all) none = record {
+        none_read (Some (Look aim asked)) done (λ name rows entries h other. h) (table_heads table stored (map.keys segments) a b (none lacks))
+    look_state aim asked done (Some segment) got (x, made, all) none = record {
       files = (x, made, λ k d lt. own_file asked (ap is_some got) (get_or x k d).file (all k d lt));
       each = λ name own there.
-          grown_so (ReadsSegment (Some (Verify asked)) done table name own.rows) a b x made
+          grown_so (ReadsSegment (Some (Look aim asked)) done table name own.rows) a b x made
           (λ apart.
           let others = λ (k : ℕ) (d : Entry) (lt : k < length x). inl (other_file asked name apart (get_or x k d).file (all k d lt)) in
           record {
@@ -265,8 +266,8 @@ module _ (stored : Files) (texts : state.Texts) (segments : Segments) (stands : 
   read_so (Some (Build name csv)) old new ended p told = table_state old.devices.depot.log new.devices.depot.log (Some (Build name csv)) (is_done ended) (λ name rows entries h. h) p.touched.depot.log
   read_so (Some (Attach name file)) old new ended p told = table_state old.devices.depot.log new.devices.depot.log (Some (Attach name file)) (is_done ended) (λ name rows entries h. h) p.touched.depot.log
   read_so (Some (Drop name)) old new ended p told = table_state old.devices.depot.log new.devices.depot.log (Some (Drop name)) (is_done ended) (λ name rows entries h. h) p.touched.depot.log
-  read_so (Some (Verify name)) old new ended p told =
-      verify_state old.devices.depot.log new.devices.depot.log name (is_done ended) (map.get segments name) refl p.touched.depot.log
+  read_so (Some (Look aim name)) old new ended p told =
+      look_state old.devices.depot.log new.devices.depot.log aim name (is_done ended) (map.get segments name) refl p.touched.depot.log
       (subst (λ h. IfSome h (λ files. LacksSegment (Some files) name → LogsOpened TableFile old.devices.depot.log new.devices.depot.log)) told p.reads)
   read_so (Some Listing) old new ended p told =
       none_read old.devices.depot.log new.devices.depot.log (Some Listing) (is_done ended) (λ name rows entries h. h) (at_table ReadsHeads old.devices.depot.held old.devices.depot.log new.devices.depot.log told p.reads)

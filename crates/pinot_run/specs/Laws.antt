@@ -17,7 +17,7 @@ use Rattle.table_store.specs.Accepted.{IsAccepted}
 use Rattle.table_store.specs.Stands.{Stands}
 use Rattle.table_store.specs.State.{HasTable, Segment, Segments, Texts}
 use Rattle.table_store.specs.TableFile.{table_name}
-use Rattle.command_words.specs.Command.{Ask, Command, Verify}
+use Rattle.command_words.specs.Command.{Ask, Command, Look}
 use Rattle.command_words.specs.Notes.{is_fault}
 use Rattle.pinot_run.specs.Promise.{Promise}
 use Rattle.command_model.specs.Ran.{WhereStands}
@@ -51,15 +51,15 @@ ReadsFor (Ok query) done table name rows entries = ReadsPlanned query table done
     entries
 ReadsFor (Err wrong) done table name rows entries = ReadsNone table (live name) rows entries
 
--- by a command: `query` and `stats` read for their text, `verify` what it likes of the segment of
--- its name, and the others nothing after the head
+-- by a command: `query` and `stats` read for their text, `verify` and `dump` what they like of the
+-- segment of their name, and the others nothing after the head
 abbrev pub ReadsSegment : Option Command → Bool → Table → List ℕ → List (List Value) → List Entry
     → Type 0
 ReadsSegment (Some (Ask Rows sql)) done table name rows entries = ReadsFor
     (asked table false sql) done table name rows entries
 ReadsSegment (Some (Ask RowsAndPlans sql)) done table name rows entries = ReadsFor
     (asked table false sql) done table name rows entries
-ReadsSegment (Some (Verify asked)) done table name rows entries = name ≢ asked
+ReadsSegment (Some (Look aim asked)) done table name rows entries = name ≢ asked
     → ReadsNone table (live name) rows entries
 ReadsSegment command done table name rows entries = ReadsNone table (live name) rows entries
 

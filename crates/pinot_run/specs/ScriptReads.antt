@@ -20,7 +20,7 @@ use Rattle.segment_reads.specs.Docs.{docs_read}
 use Rattle.segment_reads.specs.Reads.{AreBytes, Grown, bytes_read, raw_span, star_span}
 use Rattle.table_store.specs.Accepted.{IsAccepted}
 use Rattle.table_store.specs.State.{HasTable, Segment, Segments, State, Texts}
-use Rattle.command_words.specs.Command.{Ask, Command, Drop, Verify}
+use Rattle.command_words.specs.Command.{Ask, Command, Drop, Look}
 use Rattle.command_words.specs.declared.about.About.TheVariants.{Rows, RowsAndPlans}
 use Rattle.command_words.specs.declared.status.Status.{Status}
 use Rattle.command_words.specs.declared.status.Status.TheVariants as status
@@ -29,11 +29,11 @@ use Rattle.pinot_run.specs.Headline.{Moves}
 use Rattle.pinot_run.specs.Script.{RunsLines}
 use Rattle.pinot_run.specs.Text.{line_command}
 
--- whether a command takes no segment away, and does not look at the whole file of the one of this
--- name
+-- whether a command takes no segment away, and does not look at the file of the one of this name
+-- itself, as `verify` and `dump` do
 abbrev pub goes_by_plan : List ℕ → Option Command → Bool
 goes_by_plan name (Some (Drop dropped)) = false
-goes_by_plan name (Some (Verify asked)) = not (bytes_eq asked name)
+goes_by_plan name (Some (Look aim asked)) = not (bytes_eq asked name)
 goes_by_plan name command = true
 
 -- ---- the plan of a segment for a line

@@ -19,9 +19,9 @@ use commands::build::build;
 use commands::create::create;
 use commands::drop::drop_named;
 use commands::list::list;
+use commands::look::look;
 use commands::query::ask;
 use commands::scan::scan;
-use commands::verify::verify;
 use outside::{Bytes, Depot, Shelf, Sink};
 use std::alloc::Global;
 
@@ -75,7 +75,7 @@ pub fn run_command<I: Shelf, D: Depot, O: Sink, N: Sink>(
 
     // Of each segment no more is read than the plan of its rows says, whatever the status is; for a
     // text that is no query over the table nothing, for `explain` and `list` no byte past its head,
-    // and for `verify` nothing where there is none of its name.
+    // and for `verify` and `dump` nothing where there is none of its name.
     ensures reads { OfOne (call_of (map string_bytes words.now)) (λ command. AtMostRead command
         (devices I.Shelf D.Shelf inputs.old depot.old)
         (devices I.Shelf D.Shelf inputs.new depot.new)) }
@@ -126,7 +126,7 @@ fn reply_to<I: Shelf, D: Depot>(
         Some(Command::Build(name, csv)) => build(alloc, name, csv, inputs, depot),
         Some(Command::Attach(name, file)) => attach(alloc, name, file, inputs, depot),
         Some(Command::Drop(name)) => drop_named(alloc, name, depot),
-        Some(Command::Verify(name)) => verify(alloc, name, depot),
+        Some(Command::Look(aim, name)) => look(alloc, aim, name, depot),
         Some(Command::List) => list(alloc, depot),
         Some(Command::Ask(about, sql)) => ask(alloc, about, sql, depot),
         None => Err(Stop::Refused(Note::BadWords)),

@@ -30,7 +30,7 @@ use Rattle.segment_build.specs.declared.fault.CompareFault.TheVariants.{Differs}
 use Rattle.segment_build.specs.Compared.{Compared, Compares, DifferAt}
 use Rattle.segment_build.specs.Growing.{IsTooLarge, TreesFit}
 use Rattle.segment_check.specs.Calls.{OfBytes}
-use Rattle.segment_check.specs.Checked.{FailsBytes, FailsIds, FailsImageAt, FailsTree, IsImageOf, IsNoImage, has_byte, part_at}
+use Rattle.segment_check.specs.Checked.{FailsBytes, FailsIds, FailsImageAt, FailsTree, IsImageOf, IsNoImage, Spells, SpellsNone, has_byte, part_at}
 use Rattle.segment_check.specs.Reading.{AreColumns, AreOfFields, FailsColumn, HasIdsOf, IsFileHead, IsUnlike}
 use Rattle.segment_check.specs.declared.head.FileHead.{FileHead}
 use Rattle.segment_check.proofs.RowLemmas.{ids-back, ids-there, keeps, no_distinct, own-at, rows-there}
@@ -137,6 +137,22 @@ pub image_found : (table : Table) (name file : List ℕ) (held : Option Files) (
     → TreesFit table (rows_of t) → OfBytes held file (λ bytes. take (length (image 1 table name (rows_of t))) bytes ≡ image 1 table name (rows_of t)) → OfBytes held file (λ bytes. IsImageOf table name bytes (rows_of t))
 image_found table name file None read t valid named is counts count columns fields fits same = tt
 image_found table name file (Some files) read t valid named is counts count columns fields fits same = told-image table name file files read valid named is t counts count columns fields fits same
+
+-- what is not spelled, and what is
+pub ids_unspelled : (table : Table) (name file : List ℕ) (held : Option Files) (read : FileHead) (column : ℕ) (p : Part) → IsValidTable table → IsSegmentName name
+    → OfBytes held file (λ bytes. IsFileHead table name file bytes read) → p ≡ parts.Forward column → FailsColumn table held read.head column → OfBytes held file (λ bytes. SpellsNone table name bytes p)
+ids_unspelled table name file None read column p valid named is at fails = tt
+ids_unspelled table name file (Some files) read column p valid named is at fails = inr (column, at, told-column table name file files read valid named is column fails)
+
+pub rule_unspelled : (table : Table) (name file : List ℕ) (held : Option Files) (p : Part) → OfBytes held file (λ bytes. FailsAt table name bytes p) → OfBytes held file (λ bytes. SpellsNone table name bytes p)
+rule_unspelled table name file None p fails = tt
+rule_unspelled table name file (Some files) p fails = inl fails
+
+pub rows_spelled : (table : Table) (name file : List ℕ) (held : Option Files) (read : FileHead) (t : ListedColumns) → IsValidTable table → IsSegmentName name
+    → OfBytes held file (λ bytes. IsFileHead table name file bytes read) → All (Counts t.count) t.columns → t.count ≡ read.head.rows → AreColumns held read.head (length table.schema.fields) t.columns → AreOfFields table t
+    → OfBytes held file (λ bytes. Spells table name bytes (rows_of t))
+rows_spelled table name file None read t valid named is counts count columns fields = tt
+rows_spelled table name file (Some files) read t valid named is counts count columns fields = (read.front, spells table name file files read valid named is t counts count columns fields)
 
 -- ---- the search for the section of a byte
 

@@ -10,7 +10,7 @@ use Rattle.segment_file.specs.declared.fault.HeadFault.TheVariants.{NotASegment,
 use Rattle.segment_file.specs.declared.part.Part.{Part}
 use Rattle.segment_build.specs.FileReads.{LogsFile}
 use Rattle.segment_build.specs.Growing.{TreesFit}
-use Rattle.segment_check.specs.Checked.{IsImageOf, IsNoImage}
+use Rattle.segment_check.specs.Checked.{IsImageOf, IsNoImage, Spells, SpellsNone}
 
 -- where files are told, this one has bytes with P; one that is missing has none
 abbrev pub OfBytes : Option Files → List ℕ → (List ℕ → Type 0) → Type 0
@@ -26,5 +26,16 @@ pub record ChecksImage {A : Type 0} (rows_in : A → List (List Value)) (table :
       IsImageOf table name bytes (rows_in a)))
   pub refused : IfErr result (λ fault. (p : Part) → fault ≡ NotASegment p
       → OfBytes old.held file (λ bytes. IsNoImage table name bytes p))
+  pub only_reads : OnlyReads (IsErrOf result ReadFault) old new
+  pub log : LogsFile file old.log new.log
+
+-- the head and the ids of a file were looked at, and no other file: it spells the rows that are
+-- answered, or none
+pub record SpellsFile {A : Type 0} (rows_in : A → List (List Value)) (table : Table)
+    (name file : List ℕ) (old new : Seen) (result : Result A HeadFault) : Type 0 where
+  pub spells : IfOk result (λ a. OfBytes old.held file (λ bytes.
+      Spells table name bytes (rows_in a)))
+  pub refused : IfErr result (λ fault. (p : Part) → fault ≡ NotASegment p
+      → OfBytes old.held file (λ bytes. SpellsNone table name bytes p))
   pub only_reads : OnlyReads (IsErrOf result ReadFault) old new
   pub log : LogsFile file old.log new.log

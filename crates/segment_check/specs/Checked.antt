@@ -64,6 +64,16 @@ FailsImageAt table name bytes part =
     ⊎ (((t : ℕ) × (part ≡ parts.Nodes t) × FailsTree table name bytes t)
     ⊎ FailsBytes table name bytes part)
 
+-- the bytes spell these rows: all rules of a head hold, and the ids of each row are those of values
+abbrev pub Spells : Table → List ℕ → List ℕ → List (List Value) → Type 0
+Spells table name bytes rows = (front : Front) × SpellsRows table name bytes front rows
+
+-- the bytes spell no rows: a rule of a head fails first for this part, or it is the first forward
+-- index without such ids
+abbrev pub SpellsNone : Table → List ℕ → List ℕ → Part → Type 0
+SpellsNone table name bytes part = FailsAt table name bytes part
+    ⊎ ((column : ℕ) × (part ≡ parts.Forward column) × FailsIds table name bytes column)
+
 -- the bytes are the image of no rows: this part is the first that is wrong
 abbrev pub IsNoImage : Table → List ℕ → List ℕ → Part → Type 0
 IsNoImage table name bytes part = FailsAt table name bytes part

@@ -1,13 +1,14 @@
--- Whether the file of a stored segment is the image of rows. What the check of any file finds comes
--- with it.
+-- Whether the file of a stored segment is the image of rows, or spells rows. What the check of any
+-- file finds comes with it, and that a value is no text but one in UTF-8.
 use Rattle.std.specs.Prelude.{ℕ, List, Some}
 use Rattle.outside.specs.Files.{Files, bytes_of}
 use Rattle.values.specs.declared.value.Value.{Value}
 use Rattle.table_schema.specs.declared.table.Table.{Table}
 use Rattle.segment_file.specs.Names.{file_of}
 use Rattle.segment_file.specs.declared.part.Part.{Part}
+pub use Rattle.value_ids.specs.Dictionary.{IsUnicode}
 pub use Rattle.segment_check.specs.Calls.{ChecksImage, OfBytes}
-pub use Rattle.segment_check.specs.Checked.{IsImageOf, IsNoImage}
+pub use Rattle.segment_check.specs.Checked.{IsImageOf, IsNoImage, Spells, SpellsNone}
 pub use Rattle.segment_check.specs.Found.{Found, IsFound}
 
 -- the file of the segment of this name is the image of these rows, which are in its order
@@ -18,4 +19,13 @@ IsStoredImage table files name rows = IsImageOf table name (bytes_of (Some files
 -- it is the image of no rows: this part is the first that is wrong
 abbrev pub IsNoStoredImage : Table → Files → List ℕ → Part → Type 0
 IsNoStoredImage table files name part = IsNoImage table name (bytes_of (Some files)
+    (file_of name)) part
+
+-- the file of the segment of this name spells these rows
+abbrev pub SpellsStored : Table → Files → List ℕ → List (List Value) → Type 0
+SpellsStored table files name rows = Spells table name (bytes_of (Some files) (file_of name)) rows
+
+-- it spells no rows, for this part of it
+abbrev pub SpellsNoStored : Table → Files → List ℕ → Part → Type 0
+SpellsNoStored table files name part = SpellsNone table name (bytes_of (Some files)
     (file_of name)) part

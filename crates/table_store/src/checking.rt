@@ -1,13 +1,13 @@
-//! The file of a segment is looked at whole.
+//! The file of a segment is looked at: whole, or as far as it spells rows.
 
 ghost use Rattle.outside.specs.Seen.{seen};
 ghost use Rattle.segment_file.specs.Names.{IsSegmentOf};
-ghost use Rattle.table_store.specs.Calls.{ChecksSegment};
+ghost use Rattle.table_store.specs.Calls.{ChecksSegment, SpellsSegment};
 ghost use Rattle.table_store.specs.Segments.{HasSegment};
 
 use crate::{StoreFault, holds_segment};
 use outside::Depot;
-use segment_check::check_columns;
+use segment_check::{check_columns, spell_columns};
 use segment_file::{HeadFault, segment_file_name};
 use std::alloc::Global;
 use table_schema::Table;
@@ -47,6 +47,47 @@ fn check_there<D: Depot>(
 {
     let file = segment_file_name(alloc, name)?;
     match check_columns(alloc, depot, file.as_str(), name, table) {
+        Ok(columns) => Ok(columns),
+        Err(HeadFault::NotASegment(part)) => Err(StoreFault::NotASegment(part)),
+        Err(HeadFault::ReadFault) => Err(StoreFault::ReadFault),
+        Err(HeadFault::NoMemory) => Err(StoreFault::NoMemory),
+    }
+}
+
+/// The rows that the file of the segment of this name spells, column by column, or the part of it
+/// that spells none. Its indexes and trees are not looked at, nor the file of any other segment.
+pub fn spell_segment<D: Depot>(
+    alloc: Global,
+    depot: &mut D,
+    table: &Table,
+    name: &str,
+) -> Result<Columns, StoreFault>
+    requires { IsSegmentOf table.now name.now }
+    ensures { SpellsSegment table.now name.now
+        (seen D.Shelf depot.old) (seen D.Shelf depot.new) result }
+{
+    match holds_segment(alloc, depot, name) {
+        Ok(true) => {}
+        Ok(false) => return Err(StoreFault::NoSegment),
+        Err(fault) => return Err(fault),
+    }
+    spell_there(alloc, depot, table, name)
+}
+
+// The same of a segment that is there.
+fn spell_there<D: Depot>(
+    alloc: Global,
+    depot: &mut D,
+    table: &Table,
+    name: &str,
+) -> Result<Columns, StoreFault>
+    requires asked { IsSegmentOf table.now name.now }
+    requires there { HasSegment (D.held depot.old) name.now }
+    ensures { SpellsSegment table.now name.now
+        (seen D.Shelf depot.old) (seen D.Shelf depot.new) result }
+{
+    let file = segment_file_name(alloc, name)?;
+    match spell_columns(alloc, depot, file.as_str(), name, table) {
         Ok(columns) => Ok(columns),
         Err(HeadFault::NotASegment(part)) => Err(StoreFault::NotASegment(part)),
         Err(HeadFault::ReadFault) => Err(StoreFault::ReadFault),

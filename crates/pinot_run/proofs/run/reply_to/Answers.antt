@@ -38,13 +38,13 @@ returns-in-Some-Ask g c =
     subst (λ command. Ran command (devices g.I.Shelf g.D.Shelf c.args.inputs.now c.args.depot.now) (devices g.I.Shelf g.D.Shelf c.args.inputs.now c.ask.new.depot) c.ask.result)
     (ap (λ command. Some (command_view command)) (sym c.in-Some-Ask.field-0-is) ∙ c.in-Some-Ask.ensures.spelled) (c.ask.ensures (seen g.I.Shelf c.args.inputs.now))
 
-pub verify-requires : goal.verify-requires
-verify-requires g c = subst IsNamed c.in-Some-Verify.field-0-is c.in-Some-Verify.ensures.named
+pub look-requires : goal.look-requires
+look-requires g c = subst IsNamed c.in-Some-Look.field-0-is c.in-Some-Look.ensures.named
 
-pub returns-in-Some-Verify : goal.returns-in-Some-Verify
-returns-in-Some-Verify g c =
-    subst (λ command. Ran command (devices g.I.Shelf g.D.Shelf c.args.inputs.now c.args.depot.now) (devices g.I.Shelf g.D.Shelf c.args.inputs.now c.verify.new.depot) c.verify.result)
-    (ap (λ command. Some (command_view command)) (sym c.in-Some-Verify.field-0-is) ∙ c.in-Some-Verify.ensures.spelled) (c.verify.ensures (seen g.I.Shelf c.args.inputs.now))
+pub returns-in-Some-Look : goal.returns-in-Some-Look
+returns-in-Some-Look g c =
+    subst (λ command. Ran command (devices g.I.Shelf g.D.Shelf c.args.inputs.now c.args.depot.now) (devices g.I.Shelf g.D.Shelf c.args.inputs.now c.look.new.depot) c.look.result)
+    (ap (λ command. Some (command_view command)) (sym c.in-Some-Look.field-0-is) ∙ c.in-Some-Look.ensures.spelled) (c.look.ensures (seen g.I.Shelf c.args.inputs.now))
 
 pub attach-requires : goal.attach-requires
 attach-requires g c = subst IsNamed c.in-Some-Attach.field-0-is c.in-Some-Attach.ensures.named

@@ -1,0 +1,7 @@
+//! The CSV text of rows, as the crate `csv` writes it: the names of the fields, and a record a row.
+#![tactic(auto)]
+
+mod field;
+mod rows;
+
+pub use rows::{names_text, push_rows};
