@@ -7,6 +7,7 @@ use Rattle.outside.specs.Counts.{Rose}
 use Rattle.outside.specs.Files.{Files, Has, Lacks, with_file}
 use Rattle.outside.specs.Seen.{OnlyReads, Seen}
 use Rattle.values.specs.declared.value.Value.{Value}
+use Rattle.table_schema.specs.declared.field.Field.{Field}
 use Rattle.table_schema.specs.declared.table.Table.{Table}
 use Rattle.table_schema.specs.ValidTable.{AreRows}
 use Rattle.table_store.specs.Images.{IsUnicode}
@@ -17,14 +18,15 @@ use Rattle.segment_file.specs.Names.{IsSegmentName, file_of}
 use Rattle.table_store.specs.Segments.{HasRoom, IsFull, most_segments}
 use Rattle.segment_build.specs.Publishing.{incoming}
 use Rattle.table_store.specs.TableFile.{table_name}
-use Rattle.command_model.specs.Build.{BuildRefuses, HasPlace, IsLineOfPlace, PlaceRefuses, built_text, csv_rows, segment_rows}
-use Rattle.command_words.specs.Command.{Build}
-use Rattle.command_model.specs.Gives.{FindsPlace, IsTakenStop, LooksFor, Publishes, StopsPlace, StopsRows, StopsStore}
-use Rattle.command_model.specs.Profile.{NoFile, TableFile, csv_limit, place_refuses, rows_count, rows_refuse, segments_count, store_refuses}
+use Rattle.command_model.specs.Build.{BuildRefuses, HasPlace, IsLineOfPlace, PlaceRefuses, built_text, rows_from, source_rows}
+use Rattle.command_words.specs.Command.{Build, CsvFile, GeneratedRows, RowSource}
+use Rattle.command_model.specs.Generated.{rows_generated}
+use Rattle.command_model.specs.Gives.{FindsPlace, IsTakenStop, LooksFor, Publishes, StopsGenerated, StopsPlace, StopsRows, StopsSource, StopsStore}
+use Rattle.command_model.specs.Profile.{NoFile, TableFile, csv_limit, may_read, place_refuses, profile, row_files, rows_count, rows_refuse, segments_count, store_refuses}
 use Rattle.command_model.specs.Ran.{Acted, Builds, Caused, IsAllowed, NoFaults, Ran}
 use Rattle.command_model.specs.Step.{Answer, Refuses, Replies}
 use Rattle.command_model.specs.Stored.{HasTableFile, TableRefuses}
-use Rattle.command_model.specs.Touched.{LogsOpened, ReadsFront, WritesThese}
+use Rattle.command_model.specs.Touched.{LogsOpened, Reads, ReadsFront, WritesThese}
 use Rattle.command_model.specs.World.{Devices, SameButThese}
 use Rattle.command_words.specs.declared.fault.Fault.TheVariants as fault
 use Rattle.command_words.specs.declared.note.Counted.{Counted}
@@ -35,7 +37,7 @@ use Rattle.command_words.specs.declared.stop.Stop.{Stop}
 use Rattle.command_words.specs.declared.stop.Stop.TheVariants as stop
 use Rattle.command_model.proofs.CreateLemmas.{names_same, no_front}
 use Rattle.command_model.proofs.MachineLemmas.{steps_over}
-use Rattle.command_model.proofs.RowsLemmas.{fitting_all, fitting_large, fitting_none, segment_missing}
+use Rattle.command_model.proofs.RowsLemmas.{fitting_all, fitting_large, fitting_none, source_missing}
 use Rattle.command_model.proofs.StoredLemmas.{reads_as, reads_then}
 
 pub told_each : (held : Option Files) (P Q : Files → Type 0) → ((files : Files) → P files → Q files) → IfSome held P → IfSome held Q
@@ -198,7 +200,7 @@ full_there name limit files (inl h) = absurd h
 full_there name limit files (inr (inl t)) = let e = t.line_is in absurd cc
 full_there name limit files (inr (inr m)) = m.full
 
-module _ (name csv : List ℕ) where
+module _ (name : List ℕ) (csv : RowSource) where
   abbrev Refusal : Option Files → Note → Files → Type 0
   Refusal stored line inputs = IfSome stored (λ files. BuildRefuses name csv inputs files line)
 
@@ -221,14 +223,14 @@ module _ (name csv : List ℕ) where
 
   module _ (table : Table) where
     abbrev Rows : Result (List (List Value)) Note → Files → Type 0
-    Rows rows inputs = segment_rows table csv (tree.get inputs csv) ≡ rows
+    Rows rows inputs = rows_from table csv inputs ≡ rows
 
     -- the text of the file alone
     abbrev Text : Result (List (List Value)) Note → Files → Type 0
-    Text rows inputs = csv_rows table.schema.fields csv (tree.get inputs csv) ≡ rows
+    Text rows inputs = source_rows table.schema.fields csv inputs ≡ rows
 
     abbrev TextOf : Files → Result (List (List Value)) Note
-    TextOf inputs = csv_rows table.schema.fields csv (tree.get inputs csv)
+    TextOf inputs = source_rows table.schema.fields csv inputs
 
     abbrev Place : Files → Type 0
     Place files = HasPlace files name table
@@ -241,7 +243,7 @@ module _ (name csv : List ℕ) where
     -- the cause of a refusal of the file
     rows_caused : (inputs stored : Option Files) (line : Note) → rows_refuse line ≡ true → IfSome stored Place → IfSome inputs (Rows (Err line)) → Caused (Some (Build name csv)) inputs stored line
     rows_caused inputs stored note.BadWords e place told = absurd cc
-    rows_caused inputs stored (note.NoInput file) e place told = told_each inputs (Rows (Err (note.NoInput file))) (λ files. Lacks (Some files) file) (λ files is. segment_missing table csv file files is) told
+    rows_caused inputs stored (note.NoInput file) e place told = told_each inputs (Rows (Err (note.NoInput file))) (λ files. Lacks (Some files) file) (λ files is. source_missing table csv file files is) told
     rows_caused inputs stored (note.BadSchema wrong path) e place told = absurd cc
     rows_caused inputs stored (note.BadSettings wrong path) e place told = absurd cc
     rows_caused inputs stored note.TableExists e place told = absurd cc
@@ -257,8 +259,14 @@ module _ (name csv : List ℕ) where
 
 -- ---- what is touched
 
-not_read : (csv : List ℕ) (s : Seen) → ReadsFront csv csv_limit s s
-not_read csv s = no_front csv csv_limit s
+pub not_read : (source : RowSource) (s : Seen) → Reads (row_files source) s s
+not_read (CsvFile csv) s = (s, no_front csv csv_limit s, refl)
+not_read (GeneratedRows rows) s = refl
+
+-- a read of the store may fail, wherever the rows come from
+may_build : (name : List ℕ) (source : RowSource) → may_read (profile (Some (Build name source))) ≡ true
+may_build name (CsvFile csv) = refl
+may_build name (GeneratedRows rows) = refl
 
 -- the store was looked at, and then written by way of the one part
 pub looked_written : (names : List (List ℕ)) (a b d : Seen) {F : Type 0} → OnlyReads F a b → LogsOpened TableFile a.log b.log → WritesThese NoFile names b d → WritesThese TableFile names a d
@@ -286,7 +294,7 @@ pub refuses_so : (held now : Option Files) (R : Files → Type 0) → now ≡ he
 refuses_so None now R same told = tt
 refuses_so (Some files) now R same told = (told, same)
 
-module _ (name csv : List ℕ) (named : IsSegmentName name) (i j a d : Seen) where
+module _ (name : List ℕ) (csv : RowSource) (named : IsSegmentName name) (i j a d : Seen) where
   abbrev Old : Devices
   Old = record { inputs = i; depot = a }
 
@@ -303,7 +311,7 @@ module _ (name csv : List ℕ) (named : IsSegmentName name) (i j a d : Seen) whe
   none b fine reads quiet unchanged written = record { inputs = fine; depot_reads = unchanged ∙ reads.unchanged quiet; depot_writes = written ∙ reads.writes }
 
 -- the store had no place, or was not read
-pub ran_unplaced : (name csv : List ℕ) (named : IsSegmentName name) (i a b : Seen) (why : Stop) → FindsPlace name a b (Err why)
+pub ran_unplaced : (name : List ℕ) (csv : RowSource) (named : IsSegmentName name) (i a b : Seen) (why : Stop) → FindsPlace name a b (Err why)
     → Ran (Some (Build name csv)) (record { inputs = i; depot = a }) (record { inputs = i; depot = b }) (Err why)
 ran_unplaced name csv named i a b (stop.Refused line) place =
     let told = told_all i.held (λ inputs. IfSome a.held (λ files. Builds name csv inputs files (Refuses line) b.held))
@@ -311,7 +319,7 @@ ran_unplaced name csv named i a b (stop.Refused line) place =
     (told_each a.held (λ files. PlaceRefuses name files line) (λ files. BuildRefuses name csv inputs files line) (λ files h. inl h) place.stops.2)) in
     record {
       reads = tt;
-      touched = record { inputs = (i, not_read csv i, refl); depot = looked_alone (file_of name ∷ []) a b place.reads place.log };
+      touched = record { inputs = not_read csv i; depot = looked_alone (file_of name ∷ []) a b place.reads place.log };
       counted = none name csv named i i a b b refl place.reads (λ e. cc) refl refl;
       ended = acted name csv named i i a b (Refuses line) told (
         either_first (place_refuses line) (rows_refuse line) place.stops.0,
@@ -322,19 +330,19 @@ ran_unplaced name csv named i a b (stop.Refused line) place =
     }
 ran_unplaced name csv named i a b (stop.Fault fault.Read) place = record {
   reads = tt;
-  touched = record { inputs = (i, not_read csv i, refl); depot = looked_alone (file_of name ∷ []) a b place.reads place.log };
+  touched = record { inputs = not_read csv i; depot = looked_alone (file_of name ∷ []) a b place.reads place.log };
   counted = place.reads.writes;
-  ended = record { kept = place.reads.held; cause = (refl, inr (place.reads.rose refl)) };
+  ended = record { kept = place.reads.held; cause = (may_build name csv, inr (place.reads.rose refl)) };
 }
 ran_unplaced name csv named i a b (stop.Fault fault.Write) place = absurd place.stops
 ran_unplaced name csv named i a b (stop.Fault fault.Memory) place = record {
   reads = tt;
-  touched = record { inputs = (i, not_read csv i, refl); depot = looked_alone (file_of name ∷ []) a b place.reads place.log };
+  touched = record { inputs = not_read csv i; depot = looked_alone (file_of name ∷ []) a b place.reads place.log };
   counted = none name csv named i i a b b refl place.reads (λ e. cc) refl refl;
   ended = record { kept = place.reads.held; cause = tt };
 }
 
-module _ (name csv : List ℕ) (named : IsSegmentName name) (i j a b : Seen) (table : Table) (place : FindsPlace name a b (Ok table)) (reads : ReadsFront csv csv_limit i j) where
+module _ (name : List ℕ) (csv : RowSource) (named : IsSegmentName name) (i j a b : Seen) (table : Table) (place : FindsPlace name a b (Ok table)) (reads : Reads (row_files csv) i j) where
   abbrev Placed : Result Table Stop
   Placed = Ok table
 
@@ -342,7 +350,7 @@ module _ (name csv : List ℕ) (named : IsSegmentName name) (i j a b : Seen) (ta
   quiet e = e
 
   -- the file was not read, or has no rows
-  pub ran_rowless : (why : Stop) → (why ≢ stop.Fault fault.Read → j.read_faults ≡ i.read_faults) → StopsRows table.schema.fields csv i.held (Rose i.read_faults j.read_faults) why
+  pub ran_rowless : (why : Stop) → (why ≢ stop.Fault fault.Read → j.read_faults ≡ i.read_faults) → StopsSource table.schema.fields csv i.held (Rose i.read_faults j.read_faults) why
       → Ran (Some (Build name csv)) (record { inputs = i; depot = a }) (record { inputs = j; depot = b }) (Err why)
   ran_rowless (stop.Refused line) unchanged (may, none_told) =
       let told : IfSome i.held (Rows name csv table (Err line)) =
@@ -352,7 +360,7 @@ module _ (name csv : List ℕ) (named : IsSegmentName name) (i j a b : Seen) (ta
       (told_each a.held (Place name csv table) (λ files. BuildRefuses name csv inputs files line) (λ files has. inr (record { table = table; place = has; rows_are = is })) place.found)) told in
       record {
         reads = tt;
-        touched = record { inputs = (j, reads, refl); depot = looked_alone (file_of name ∷ []) a b place.reads place.log };
+        touched = record { inputs = reads; depot = looked_alone (file_of name ∷ []) a b place.reads place.log };
         counted = none name csv named i j a b b (unchanged (λ e. cc)) place.reads quiet refl refl;
         ended = acted name csv named i j a b (Refuses line) over (
           either_second (place_refuses line) (rows_refuse line) may,
@@ -363,14 +371,14 @@ module _ (name csv : List ℕ) (named : IsSegmentName name) (i j a b : Seen) (ta
       }
   ran_rowless (stop.Fault fault.Read) unchanged rose = record {
     reads = tt;
-    touched = record { inputs = (j, reads, refl); depot = looked_alone (file_of name ∷ []) a b place.reads place.log };
+    touched = record { inputs = reads; depot = looked_alone (file_of name ∷ []) a b place.reads place.log };
     counted = place.reads.writes;
-    ended = record { kept = place.reads.held; cause = (refl, inl rose) };
+    ended = record { kept = place.reads.held; cause = (may_build name csv, inl rose) };
   }
   ran_rowless (stop.Fault fault.Write) unchanged by = absurd by
   ran_rowless (stop.Fault fault.Memory) unchanged by = record {
     reads = tt;
-    touched = record { inputs = (j, reads, refl); depot = looked_alone (file_of name ∷ []) a b place.reads place.log };
+    touched = record { inputs = reads; depot = looked_alone (file_of name ∷ []) a b place.reads place.log };
     counted = none name csv named i j a b b (unchanged (λ e. cc)) place.reads quiet refl refl;
     ended = record { kept = place.reads.held; cause = tt };
   }
@@ -397,7 +405,7 @@ module _ (name csv : List ℕ) (named : IsSegmentName name) (i j a b : Seen) (ta
         (λ inputs is_rows. built_so trees text a.held d.held (leaves ∙ ap (with_file (file_of name) (image 1 table name rows)) place.reads.held) is place.found inputs is_rows) said in
         record {
           reads = tt;
-          touched = record { inputs = (j, reads, refl); depot = looked_written (file_of name ∷ []) a b d place.reads place.log writes };
+          touched = record { inputs = reads; depot = looked_written (file_of name ∷ []) a b d place.reads place.log writes };
           counted = none name csv named i j a d b fine place.reads quiet read (unchanged (λ e. cc));
           ended = acted name csv named i j a d (Replies text) over (refl, tt);
         }
@@ -410,7 +418,7 @@ module _ (name csv : List ℕ) (named : IsSegmentName name) (i j a b : Seen) (ta
         (told_each a.held (Place name csv table) (λ files. BuildRefuses name csv inputs files line) (λ files has. inr (record { table = table; place = has; rows_are = has_none })) place.found)) said in
         record {
           reads = tt;
-          touched = record { inputs = (j, reads, refl); depot = looked_written (file_of name ∷ []) a b d place.reads place.log writes };
+          touched = record { inputs = reads; depot = looked_written (file_of name ∷ []) a b d place.reads place.log writes };
           counted = none name csv named i j a d b fine place.reads quiet read (unchanged (λ e. cc));
           ended = acted name csv named i j a d (Refuses line) over (
             either_second (place_refuses line) (rows_refuse line) may,
@@ -422,19 +430,19 @@ module _ (name csv : List ℕ) (named : IsSegmentName name) (i j a b : Seen) (ta
     ran_published (Err (stop.Fault fault.Read)) unchanged by = absurd by
     ran_published (Err (stop.Fault fault.Write)) unchanged (kept, rose) = record {
       reads = tt;
-      touched = record { inputs = (j, reads, refl); depot = looked_written (file_of name ∷ []) a b d place.reads place.log writes };
+      touched = record { inputs = reads; depot = looked_written (file_of name ∷ []) a b d place.reads place.log writes };
       counted = (fine, read ∙ place.reads.unchanged quiet);
       ended = record { kept = kept ∙ place.reads.held; cause = subst (λ n. Rose n d.write_faults) place.reads.writes rose };
     }
     ran_published (Err (stop.Fault fault.Memory)) unchanged kept = record {
       reads = tt;
-      touched = record { inputs = (j, reads, refl); depot = looked_written (file_of name ∷ []) a b d place.reads place.log writes };
+      touched = record { inputs = reads; depot = looked_written (file_of name ∷ []) a b d place.reads place.log writes };
       counted = none name csv named i j a d b fine place.reads quiet read (unchanged (λ e. cc));
       ended = record { kept = kept ∙ place.reads.held; cause = tt };
     }
 
 -- a stop on the way is the one of the whole
-pub ran_halted : (name csv : List ℕ) (old new : Devices) (result : Result (List ℕ) Stop) (why : Stop) → IsErrAnd result (λ s. s ≡ why) → Ran (Some (Build name csv)) old new (Err why) → Ran (Some (Build name csv)) old new result
+pub ran_halted : (name : List ℕ) (csv : RowSource) (old new : Devices) (result : Result (List ℕ) Stop) (why : Stop) → IsErrAnd result (λ s. s ≡ why) → Ran (Some (Build name csv)) old new (Err why) → Ran (Some (Build name csv)) old new result
 ran_halted name csv old new (Ok text) why is ran = absurd is
 ran_halted name csv old new (Err other) why is ran = subst (λ s. Ran (Some (Build name csv)) old new (Err s)) (sym is) ran
 
@@ -445,3 +453,21 @@ built_of name rows count is = ap (λ n. codes "built " ++ name ++ codes ", " ++ 
 pub handed_place : (name : List ℕ) (a b : Seen) (r : Result Table Stop) (why : Stop) → IsErrAnd r (λ s. s ≡ why) → FindsPlace name a b (Err why) → FindsPlace name a b r
 handed_place name a b (Ok table) why is place = absurd is
 handed_place name a b (Err s) why is place = subst (λ w. FindsPlace name a b (Err w)) (sym is) place
+
+-- the file alone was read for its rows
+pub file_read : (csv : List ℕ) (i j : Seen) → ReadsFront csv csv_limit i j → Reads (row_files (CsvFile csv)) i j
+file_read csv i j reads = (j, reads, refl)
+
+-- what stops the reading of a file is what stops its rows
+pub rows_stop : (fields : List Field) (csv : List ℕ) (held : Option Files) (F : Type 0) (why : Stop) → StopsRows fields csv held F why → StopsSource fields (CsvFile csv) held F why
+rows_stop fields csv held F (stop.Refused line) by = by
+rows_stop fields csv held F (stop.Fault fault.Read) by = by
+rows_stop fields csv held F (stop.Fault fault.Write) by = by
+rows_stop fields csv held F (stop.Fault fault.Memory) by = by
+
+-- rows that are generated are those of no file
+pub own_rows_stop : (fields : List Field) (rows : ℕ) (held : Option Files) (F : Type 0) (why : Stop) → StopsGenerated (rows_generated fields rows) why → StopsSource fields (GeneratedRows rows) held F why
+own_rows_stop fields rows held F (stop.Refused line) (may, is) = (may, told_all held (λ files. rows_generated fields rows ≡ Err line) (λ files. is))
+own_rows_stop fields rows held F (stop.Fault fault.Read) by = absurd cc
+own_rows_stop fields rows held F (stop.Fault fault.Write) by = absurd cc
+own_rows_stop fields rows held F (stop.Fault fault.Memory) by = tt

@@ -1,7 +1,7 @@
 -- What a command does to stored files is its step on the state that they stand for.
-use Rattle.std.proofs.Common.{◌≡◌, ◌≢◌, ◌∙◌, ◌≤◌, ◌<◌, ◌&&◌, ◌++◌, inl, inr, ℕ, suc, Bool, true, false, List, [], ◌∷◌, length, get_or, take, option_map, nat_le, nat_lt, Option, Some, None, Result, Ok, Err, IfSome, IsSomeAnd, refl, sym, ap, subst, arith, cond}
+use Rattle.std.proofs.Common.{◌≡◌, ◌≢◌, ◌∙◌, ◌≤◌, ◌<◌, ◌&&◌, ◌++◌, inl, inr, ℕ, suc, Bool, true, false, List, [], ◌∷◌, length, get_or, take, option_map, nat_le, nat_lt, Option, Some, None, Result, Ok, Err, IfSome, IsSomeAnd, refl, sym, ap, subst, arith, cond, lit≤}
 use Rattle.std.proofs.lemmas.Bool.Decides.{nat_tests}
-use Rattle.std.specs.Prelude.{flat_map, is_some, unwrap_or, map as each}
+use Rattle.std.specs.Prelude.{flat_map, if◌then◌else◌, is_some, unwrap_or, map as each}
 use Rattle.std.specs.FinMap as map
 use Rattle.std.specs.Cmp.{eq_by_cmp_equiv}
 use Rattle.std.specs.List.{AllZip}
@@ -50,10 +50,11 @@ use Rattle.table_store.proofs.ImageLemmas.{none_unspelled, none_wrong, one_image
 use Rattle.table_store.proofs.StandsLemmas.{create_stands, none_there, one_there, segment_stands, table_stands, table_there}
 use Rattle.segment_file.specs.declared.part.Part.TheVariants as parts
 use Rattle.command_model.specs.Attach.{AttachRefuses, FitsCheck, IsAttached, IsUnlikeInput, LacksInput, attached_rows, file_rows}
-use Rattle.command_model.specs.Build.{AreMany, BuildRefuses, HasPlace, IsBuilt, IsTaken, new_rows, segment_rows, table_of as table_in, with_schema, with_settings as settled}
-use Rattle.command_words.specs.Command.{Attach, Build, Command, Create, Drop, Listing, Look, Open, Scan, Ask}
+use Rattle.command_model.specs.Build.{AreMany, BuildRefuses, HasPlace, IsBuilt, IsTaken, new_rows, rows_from, table_of as table_in, with_schema, with_settings as settled}
+use Rattle.command_words.specs.Command.{Ask, Attach, Build, Command, Create, Drop, GeneratedTexts, Listing, Look, Open, RowSource, Scan, TextFiles, TextSource}
+use Rattle.command_model.specs.Generated.{generated_schema, generated_settings, most_generated}
 use Rattle.command_model.specs.Drop.{DropRefuses, IsDropped, IsMissing}
-use Rattle.command_model.specs.Create.{Made, beside, json_bytes, json_in, new_table, read_by, schema_in, settings_in, table_of, with_settings}
+use Rattle.command_model.specs.Create.{Made, beside, json_bytes, json_in, new_table, own_table, read_by, schema_in, settings_in, table_from, table_of, with_own_settings, with_settings}
 use Rattle.command_model.proofs.StoredLemmas.{table_segments}
 use Rattle.command_model.specs.Queried.{HasNoReply, HasReply, IsFaultOf, IsQueried, IsWrongImage, QueryRefuses, all_rows, rows_in}
 use Rattle.command_words.specs.declared.about.About.{About}
@@ -114,6 +115,45 @@ schema_made schema settings inputs (Ok (text, fields)) texts table is e =
 accepted : (schema settings : List ℕ) (inputs : Files) (texts : state.Texts) (table : Table) → new_table schema settings inputs ≡ Ok (texts, table) → IsAccepted texts table
 unfolding new_table
 accepted schema settings inputs texts table e = schema_made schema settings inputs (schema_in schema inputs) texts table refl e
+
+-- the program's own texts are short
+pub schema_short : length generated_schema ≤ 1048576
+unfolding generated_schema
+schema_short = lit≤ tt
+
+pub settings_short : length generated_settings ≤ 1048576
+unfolding generated_settings
+settings_short = lit≤ tt
+
+own_settings_made : (schema : Schema) (r : Result (List ℕ × Settings) Note) (texts : state.Texts) (table : Table)
+    → beside BadSettings generated_settings (settings_read schema.fields generated_settings) ≡ r → schema_read generated_schema ≡ Ok schema → table_of generated_schema schema r ≡ Ok (texts, table) → IsAccepted texts table
+own_settings_made schema (Err line) texts table is read e = absurd cc
+own_settings_made schema (Ok (more, set)) texts table is read e =
+    let both = beside_ok BadSettings generated_settings (settings_read schema.fields generated_settings) more set is in
+    let pair : ◌≡◌ {A = state.Texts × Table} (record { schema = generated_schema; settings = more }, record { schema = schema; settings = set }) (texts, table) = cc in
+    subst (λ (p : state.Texts × Table). IsAccepted p.0 p.1) pair
+    (record { fits = record { schema = schema_short; settings = subst (λ t. length t ≤ 1048576) both.0 settings_short }; schema = read; settings = subst (λ t. settings_read schema.fields t ≡ Ok set) both.0 both.1 })
+
+own_schema_made : (r : Result (List ℕ × Schema) Note) (texts : state.Texts) (table : Table) → beside BadSchema generated_schema (schema_read generated_schema) ≡ r → with_own_settings r ≡ Ok (texts, table) → IsAccepted texts table
+own_schema_made (Err line) texts table is e = absurd cc
+own_schema_made (Ok (text, schema)) texts table is e =
+    let both = beside_ok BadSchema generated_schema (schema_read generated_schema) text schema is in
+    own_settings_made schema (beside BadSettings generated_settings (settings_read schema.fields generated_settings)) texts table refl both.1
+    (subst (λ t. table_of t schema (beside BadSettings generated_settings (settings_read schema.fields generated_settings)) ≡ Ok (texts, table)) (sym both.0) e)
+
+unless_many : (many : Bool) (made : Made) (texts : state.Texts) (table : Table) → (if many then Err (note.TooLarge counted.Rows most_generated) else made) ≡ Ok (texts, table) → made ≡ Ok (texts, table)
+unless_many true made texts table e = absurd cc
+unless_many false made texts table e = e
+
+own_accepted : (rows : ℕ) (texts : state.Texts) (table : Table) → own_table rows ≡ Ok (texts, table) → IsAccepted texts table
+unfolding own_table
+own_accepted rows texts table e =
+    own_schema_made (beside BadSchema generated_schema (schema_read generated_schema)) texts table refl
+    (unless_many (nat_lt most_generated rows) (with_own_settings (beside BadSchema generated_schema (schema_read generated_schema))) texts table e)
+
+accepted_from : (source : TextSource) (inputs : Files) (texts : state.Texts) (table : Table) → table_from source inputs ≡ Ok (texts, table) → IsAccepted texts table
+accepted_from (TextFiles schema settings) inputs texts table e = accepted schema settings inputs texts table e
+accepted_from (GeneratedTexts rows) inputs texts table e = own_accepted rows texts table e
 
 -- ---- the files that are left stand for the state that is left
 
@@ -253,7 +293,7 @@ as_many n le = grind (arith, nat_tests)
 fewer_still : (n : ℕ) → n < 512 → nat_le 512 n ≡ false
 fewer_still n lt = grind (arith, nat_tests)
 
-no_place : (stored : Files) → Stands stored NoTable → (name csv : List ℕ) (inputs : Files) (line : Note) → BuildRefuses name csv inputs stored line → Refuses line ≡ (built NoTable name csv inputs).answer
+no_place : (stored : Files) → Stands stored NoTable → (name : List ℕ) (csv : RowSource) (inputs : Files) (line : Note) → BuildRefuses name csv inputs stored line → Refuses line ≡ (built NoTable name csv inputs).answer
 no_place stored stands name csv inputs line (inl (inl h)) = none_refused stored stands line (table_segments stored line h)
 no_place stored stands name csv inputs line (inl (inr (inl t))) = let (bytes, got, is) = t.table_is in none_there stored stands (bytes, got)
 no_place stored stands name csv inputs line (inl (inr (inr m))) = let (bytes, got, is) = m.table_is in none_there stored stands (bytes, got)
@@ -282,7 +322,7 @@ module _ (stored : Files) (texts : state.Texts) (segments : Segments) (stands : 
       → Stands (map.insert stored (file_of name) (image 1 table name rows)) (HasTable texts (map.insert segments name (segment_of table rows)))
   segment_put table name rows accepted named can lacks room = segment_stands stored texts segments table name rows stands accepted named can (segments_fewer room) (segment_lacks name lacks)
 
-module _ (stored : Files) (texts : state.Texts) (segments : Segments) (stands : Stands stored (HasTable texts segments)) (name csv : List ℕ) (inputs : Files) where
+module _ (stored : Files) (texts : state.Texts) (segments : Segments) (stands : Stands stored (HasTable texts segments)) (name : List ℕ) (csv : RowSource) (inputs : Files) where
   abbrev Built : After
   Built = built (HasTable texts segments) name csv inputs
 
@@ -307,7 +347,7 @@ module _ (stored : Files) (texts : state.Texts) (segments : Segments) (stands : 
       let test : nat_le 512 (map.len segments) ≡ true = as_many (map.len segments) (segments_full stored texts segments stands full) in
       rw free (rw test refl)
 
-  placed_rows : (table : Table) (rows : Result (List (List Value)) Note) → HasPlace stored name table → segment_rows table csv (map.get inputs csv) ≡ rows → new_rows table segments name csv inputs ≡ rows
+  placed_rows : (table : Table) (rows : Result (List (List Value)) Note) → HasPlace stored name table → rows_from table csv inputs ≡ rows → new_rows table segments name csv inputs ≡ rows
   placed_rows table rows place are =
       let free : is_some (map.get segments name) ≡ false = ap is_some (free_name place.free) in
       let test : nat_le 512 (map.len segments) ≡ false = fewer_still (map.len segments) (segments_fewer stored texts segments stands place.room) in
@@ -331,7 +371,7 @@ module _ (stored : Files) (texts : state.Texts) (segments : Segments) (stands : 
       subst (λ after. IsStepped after (Replies text) new) (sym (by_rows b.table (Ok b.rows) b.place.table_is (placed_rows b.table (Ok b.rows) b.place b.rows_are)))
       (record { answers = ap Replies b.text_is; stands = subst (λ n. IsSomeAnd n (λ files. Stands files (HasTable texts (map.insert segments name (segment_of b.table b.rows))))) (sym b.leaves) stands_so })
 
-build_step : (stored : Files) (name csv : List ℕ) (inputs : Files) (answer : Answer) (new : Option Files) (before : State) → Stands stored before → Builds name csv inputs stored answer new → IsStepped (built before name csv inputs) answer new
+build_step : (stored : Files) (name : List ℕ) (csv : RowSource) (inputs : Files) (answer : Answer) (new : Option Files) (before : State) → Stands stored before → Builds name csv inputs stored answer new → IsStepped (built before name csv inputs) answer new
 build_step stored name csv inputs (Replies text) new NoTable stands b = let (bytes, got, is) = b.place.table_is in none_there stored stands (bytes, got)
 build_step stored name csv inputs (Refuses line) new NoTable stands (why, same) = record { answers = no_place stored stands name csv inputs line why; stands = stays stored NoTable new stands same }
 build_step stored name csv inputs (Replies text) new (HasTable texts segments) stands b = built_step stored texts segments stands name csv inputs text new b
@@ -666,9 +706,9 @@ attach_step stored name file inputs (Refuses line) new (HasTable texts segments)
 over_step : (command : Option Command) (inputs stored : Files) (answer : Answer) (new : Option Files) (before : State) → Stands stored before → Over command inputs (Some stored) answer new → HasStep before command inputs (λ after. IsStepped after answer new)
 over_step None inputs stored answer new before stands (answers, same) = (nothing, tt, record { answers = answers; stands = stays stored before new stands same })
 over_step (Some (Scan file sql)) inputs stored answer new before stands (answers, same) = (nothing, tt, record { answers = answers; stands = stays stored before new stands same })
-over_step (Some (Create schema settings)) inputs stored answer new before stands over =
-    (nothing, tt, by_table (new_table schema settings inputs) stored answer new before over.there (accepted schema settings inputs) stands over.known over.answers over.leaves)
-over_step (Some (Build name csv)) inputs stored answer new before stands builds = (nothing, tt, build_step stored name csv inputs answer new before stands builds)
+over_step (Some (Create texts)) inputs stored answer new before stands over =
+    (nothing, tt, by_table (table_from texts inputs) stored answer new before over.there (accepted_from texts inputs) stands over.known over.answers over.leaves)
+over_step (Some (Build name source)) inputs stored answer new before stands builds = (nothing, tt, build_step stored name source inputs answer new before stands builds)
 over_step (Some (Attach name file)) inputs stored answer new before stands attaches = attach_step stored name file inputs answer new before stands attaches
 over_step (Some (Drop name)) inputs stored answer new before stands drops = (nothing, tt, drop_step stored name answer new before stands drops)
 over_step (Some (Look aim name)) inputs stored answer new before stands (looks, same) = (nothing, tt, record { answers = look_step stored aim name answer before stands looks; stands = stays stored before new stands same })

@@ -1,6 +1,6 @@
 -- The rows of the CSV file of `build`.
 use Rattle.std.proofs.Common.{◌≡◌, ◌≢◌, ◌∙◌, ◌≤◌, ◌<◌, inl, inr, ℕ, suc, List, [], ◌∷◌, length, All, nat_lt, Bool, true, false, cond, Option, Some, None, Result, Ok, Err, IfOk, IfSome, IsErrAnd, refl, sym, ap, subst, arith}
-use Rattle.std.specs.Prelude.{IfErr}
+use Rattle.std.specs.Prelude.{IfErr, if◌then◌else◌}
 use Rattle.std.specs.FinMap as tree
 use Rattle.std.specs.List.{AllByRecursion}
 use Rattle.std.proofs.lemmas.Bool.Decides.{nat_tests}
@@ -21,7 +21,10 @@ use Rattle.csv_row.specs.declared.fault.CsvFault.{CsvFault}
 use Rattle.csv_row.specs.declared.fault.CsvFault.TheVariants as csv
 use Rattle.csv_ingest.proofs.FaultLemmas.{any_columns}
 use Rattle.csv_ingest.proofs.UnicodeRows.{rows_are_unicode}
-use Rattle.command_model.specs.Build.{csv_rows, fitting, noted, segment_rows}
+use Rattle.csv_row.specs.declared.fault.CsvKind.TheVariants.{WrongLength}
+use Rattle.command_words.specs.Command.{CsvFile, GeneratedRows, RowSource}
+use Rattle.command_model.specs.Build.{csv_rows, fitting, noted, rows_from, segment_rows}
+use Rattle.command_model.specs.Generated.{are_generated, generated_rows, most_generated, rows_generated}
 use Rattle.command_model.specs.Gives.{StopsRead, StopsRows, StopsText}
 use Rattle.command_words.specs.Notes.{csv_note}
 use Rattle.command_model.specs.Profile.{csv_limit, rows_refuse, tree_limit}
@@ -164,6 +167,17 @@ fitting_missing table (Err line) file e = e
 pub segment_missing : (table : Table) (named file : List ℕ) (files : Files) → segment_rows table named (tree.get files named) ≡ Err (note.NoInput file) → tree.get files file ≡ None
 segment_missing table named file files e =
     rows_missing table.schema.fields named file files (fitting_missing table (csv_rows table.schema.fields named (tree.get files named)) file e)
+
+-- rows that are generated are refused for no file
+none_missing : (of_them many : Bool) (rows : List (List Value)) (file : List ℕ) → (if of_them then (if many then Err (note.TooLarge counted.Rows most_generated) else Ok rows) else Err (note.BadCsv WrongLength 0 0)) ≡ Err (note.NoInput file) → ⊥
+none_missing true true rows file e = cc
+none_missing true false rows file e = cc
+none_missing false many rows file e = cc
+
+pub source_missing : (table : Table) (source : RowSource) (file : List ℕ) (files : Files) → rows_from table source files ≡ Err (note.NoInput file) → tree.get files file ≡ None
+source_missing table (CsvFile csv) file files e = segment_missing table csv file files e
+source_missing table (GeneratedRows rows) file files e =
+    absurd (none_missing (are_generated table.schema.fields) (nat_lt most_generated rows) (generated_rows rows) file (fitting_missing table (rows_generated table.schema.fields rows) file e))
 
 -- ---- results
 

@@ -19,7 +19,9 @@ use Rattle.segment_file.specs.Image.{CanHold, image}
 use Rattle.segment_file.specs.Names.{IsSegmentName, file_of}
 use Rattle.table_store.specs.Segments.{HasRoom, HasSegment, IsFull, LacksSegment, most_segments}
 use Rattle.table_store.specs.State.{Segments, Texts}
+use Rattle.command_words.specs.Command.{CsvFile, GeneratedRows, RowSource}
 use Rattle.command_words.specs.Notes.{csv_note}
+use Rattle.command_model.specs.Generated.{rows_generated}
 use Rattle.command_model.specs.Profile.{csv_limit, tree_limit}
 use Rattle.command_model.specs.Stored.{HasTableFile, TableRefuses}
 use Rattle.command_words.specs.declared.note.Counted.TheVariants as counted
@@ -66,13 +68,23 @@ fitting table (Ok rows) = if trees_fit table rows then Ok rows else Err
 abbrev pub segment_rows : Table → List ℕ → Option (List ℕ) → Result (List (List Value)) Note
 segment_rows table file bytes = fitting table (csv_rows table.schema.fields file bytes)
 
+-- the rows over these fields that come from there
+abbrev pub source_rows : List Field → RowSource → Files → Result (List (List Value)) Note
+source_rows fields (CsvFile csv) inputs = csv_rows fields csv (map.get inputs csv)
+source_rows fields (GeneratedRows rows) inputs = rows_generated fields rows
+
+-- the rows of a segment of the table that come from there
+abbrev pub rows_from : Table → RowSource → Files → Result (List (List Value)) Note
+rows_from table source inputs = fitting table (source_rows table.schema.fields source inputs)
+
 -- the rows for a new segment: none of these has its name, and there may be one more
-abbrev pub new_rows : Table → Segments → List ℕ → List ℕ → Files → Result (List (List Value)) Note
-new_rows table segments name csv inputs =
+abbrev pub new_rows : Table → Segments → List ℕ → RowSource → Files
+    → Result (List (List Value)) Note
+new_rows table segments name source inputs =
     if is_some (map.get segments name) then Err (note.NameTaken name)
     else if nat_le most_segments (map.len segments) then Err
     (note.TooLarge counted.Segments most_segments)
-    else segment_rows table csv (map.get inputs csv)
+    else rows_from table source inputs
 
 -- what is said of a segment of rows that was published
 abbrev pub built_text : List ℕ → List (List Value) → List ℕ
@@ -108,11 +120,12 @@ IsLineOfPlace name (note.NameTaken taken) = taken ≡ name
 IsLineOfPlace name (note.TooLarge counted.Segments limit) = limit ≡ most_segments
 IsLineOfPlace name other = Unit {0}
 
--- the CSV file has no rows for a segment of the table
-pub record LacksRows (inputs files : Files) (name csv : List ℕ) (line : Note) : Type 0 where
+-- there are no rows for a segment of the table
+pub record LacksRows (inputs files : Files) (name : List ℕ) (source : RowSource) (line : Note)
+    : Type 0 where
   pub table : Table
   pub place : HasPlace files name table
-  pub rows_are : segment_rows table csv (map.get inputs csv) ≡ Err line
+  pub rows_are : rows_from table source inputs ≡ Err line
 
 -- why a store has no place for a segment of this name
 abbrev pub PlaceRefuses : List ℕ → Files → Note → Type 0
@@ -120,18 +133,18 @@ PlaceRefuses name files line = TableRefuses files line ⊎ IsTaken files name li
     ⊎ AreMany files name line
 
 -- why `build` is refused
-abbrev pub BuildRefuses : List ℕ → List ℕ → Files → Files → Note → Type 0
-BuildRefuses name csv inputs files line = PlaceRefuses name files line
-    ⊎ LacksRows inputs files name csv line
+abbrev pub BuildRefuses : List ℕ → RowSource → Files → Files → Note → Type 0
+BuildRefuses name source inputs files line = PlaceRefuses name files line
+    ⊎ LacksRows inputs files name source line
 
--- the segment of the rows of the CSV file was published
-pub record IsBuilt (inputs files : Files) (name csv text : List ℕ) (new : Option Files)
-    : Type 0 where
+-- the segment of the rows was published
+pub record IsBuilt (inputs files : Files) (name : List ℕ) (source : RowSource) (text : List ℕ)
+    (new : Option Files) : Type 0 where
   pub named : IsSegmentName name
   pub table : Table
   pub place : HasPlace files name table
   pub rows : List (List Value)
-  pub rows_are : segment_rows table csv (map.get inputs csv) ≡ Ok rows
+  pub rows_are : rows_from table source inputs ≡ Ok rows
   pub can : CanHold table rows
   pub text_is : text ≡ built_text name rows
   pub leaves : new ≡ with_file (file_of name) (image 1 table name rows) (Some files)

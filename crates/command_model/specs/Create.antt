@@ -13,7 +13,9 @@ use Rattle.table_schema.specs.declared.settings.Settings.{Settings}
 use Rattle.table_schema.specs.declared.table.Table.{Table}
 use Rattle.table_store.specs.State as state
 use Rattle.table_store.specs.TableFile.{text_limit}
-use Rattle.command_words.specs.declared.note.Counted.TheVariants.{JsonBytes}
+use Rattle.command_words.specs.Command.{GeneratedTexts, TextFiles, TextSource}
+use Rattle.command_model.specs.Generated.{generated_schema, generated_settings, most_generated}
+use Rattle.command_words.specs.declared.note.Counted.TheVariants.{JsonBytes, Rows}
 use Rattle.command_words.specs.declared.note.Note.{Note}
 use Rattle.command_words.specs.declared.note.Note.TheVariants.{BadSchema, BadSettings, NoInput, TooLarge}
 
@@ -73,3 +75,19 @@ with_settings settings inputs (Ok (text, schema)) = table_of text schema
 -- the table that two input files make: the schema comes first
 unfoldable pub new_table : List ℕ → List ℕ → Files → Made
 new_table schema settings inputs = with_settings settings inputs (schema_in schema inputs)
+
+-- the table of a schema that is the program's own, and of its own settings
+abbrev pub with_own_settings : Result (List ℕ × Schema) Note → Made
+with_own_settings (Err line) = Err line
+with_own_settings (Ok (text, schema)) = table_of text schema
+    (beside BadSettings generated_settings (settings_read schema.fields generated_settings))
+
+-- the program's own table, unless too many rows are to be generated
+unfoldable pub own_table : ℕ → Made
+own_table rows = if nat_lt most_generated rows then Err (TooLarge Rows most_generated) else
+    with_own_settings (beside BadSchema generated_schema (schema_read generated_schema))
+
+-- the table that the texts make
+abbrev pub table_from : TextSource → Files → Made
+table_from (TextFiles schema settings) inputs = new_table schema settings inputs
+table_from (GeneratedTexts rows) inputs = own_table rows

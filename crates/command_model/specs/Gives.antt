@@ -14,10 +14,12 @@ use Rattle.table_store.specs.Segments.{HasSegment, LacksSegment}
 use Rattle.table_store.specs.State as state
 use Rattle.table_store.specs.TableFile.{table_file, table_name}
 use Rattle.command_model.specs.Consulted.{HasRead, ReadsAbout, ReadsStored}
-use Rattle.command_model.specs.Build.{HasPlace, PlaceRefuses, IsLineOfPlace, built_text, csv_rows}
+use Rattle.command_words.specs.Command.{RowSource, TextSource}
+use Rattle.command_model.specs.Build.{HasPlace, PlaceRefuses, IsLineOfPlace, built_text, csv_rows, source_rows}
+use Rattle.command_model.specs.Create.{Made}
 use Rattle.command_model.specs.Drop.{dropped_text}
+use Rattle.command_model.specs.Profile.{Opens, StoreFiles, TableFile, place_refuses, query_refuses, rows_refuse, source_refuses, store_refuses, texts_refuse, tree_limit}
 use Rattle.command_model.specs.Look.{IsFileOf, IsFileOfNone}
-use Rattle.command_model.specs.Profile.{Opens, StoreFiles, TableFile, place_refuses, query_refuses, rows_refuse, store_refuses, texts_refuse, tree_limit}
 use Rattle.command_model.specs.Queried.{IsQueried, QueryRefuses}
 use Rattle.command_model.specs.Stored.{part_text}
 use Rattle.command_model.specs.Touched.{LogsOpened}
@@ -63,6 +65,15 @@ StopsBy found Failing (stop.Refused line) = (texts_refuse line ≡ true)
 StopsBy found Failing (stop.Fault fault.Read) = Failing
 StopsBy found Failing (stop.Fault fault.Write) = ⊥
 StopsBy found Failing (stop.Fault fault.Memory) = Unit {0}
+
+-- the texts of a table are refused for what was found first in them; or, where it can be, a read
+-- failed; or memory ran out
+abbrev pub StopsTexts : TextSource → Option Made → Type 0 → Stop → Type 0
+StopsTexts source found Failing (stop.Refused line) = (source_refuses source line ≡ true)
+    × IfSome found (λ r. r ≡ Err line)
+StopsTexts source found Failing (stop.Fault fault.Read) = Failing
+StopsTexts source found Failing (stop.Fault fault.Write) = ⊥
+StopsTexts source found Failing (stop.Fault fault.Memory) = Unit {0}
 
 -- a text is refused for its first fault, or memory ran out
 abbrev pub StopsText : RowsOrFault → Stop → Type 0
@@ -234,6 +245,19 @@ StopsRows fields csv held Failing (stop.Refused line) = (rows_refuse line ≡ tr
 StopsRows fields csv held Failing (stop.Fault fault.Read) = Failing
 StopsRows fields csv held Failing (stop.Fault fault.Write) = ⊥
 StopsRows fields csv held Failing (stop.Fault fault.Memory) = Unit {0}
+
+-- there are no rows to be generated, or memory ran out
+abbrev pub StopsGenerated : Result (List (List Value)) Note → Stop → Type 0
+StopsGenerated found (stop.Refused line) = (rows_refuse line ≡ true) × (found ≡ Err line)
+StopsGenerated found (stop.Fault why) = why ≡ fault.Memory
+
+-- there are no rows over these fields, or a read failed, or memory ran out
+abbrev pub StopsSource : List Field → RowSource → Option Files → Type 0 → Stop → Type 0
+StopsSource fields source held Failing (stop.Refused line) = (rows_refuse line ≡ true)
+    × IfSome held (λ files. source_rows fields source files ≡ Err line)
+StopsSource fields source held Failing (stop.Fault fault.Read) = Failing
+StopsSource fields source held Failing (stop.Fault fault.Write) = ⊥
+StopsSource fields source held Failing (stop.Fault fault.Memory) = Unit {0}
 
 -- a segment of these rows was published, or a tree of them is too large, or the store could not be
 -- written, or memory ran out

@@ -5,6 +5,7 @@ pub mod Columns
 pub mod Consulted
 pub mod Create
 pub mod Drop
+pub mod Generated
 pub mod Gives
 pub mod InputImages
 pub mod Places
@@ -13,6 +14,7 @@ pub mod Queried
 pub mod Ran
 pub mod Step
 pub mod Stored
+pub mod Through
 pub mod Touched
 pub mod Look
 pub mod World

@@ -5,7 +5,7 @@ use Rattle.csv_ingest.specs.Blocks as csv
 use Rattle.segment_file.specs.Names.{file_of}
 use Rattle.segment_file.specs.Trees as trees
 use Rattle.table_store.specs.TableFile.{table_name, text_limit}
-use Rattle.command_words.specs.Command.{Attach, Build, Command, Create, Drop, Listing, Look, Open, Scan, Ask}
+use Rattle.command_words.specs.Command.{Ask, Attach, Build, Command, Create, CsvFile, Drop, GeneratedRows, GeneratedTexts, Listing, Look, Open, RowSource, Scan, TextFiles, TextSource}
 use Rattle.command_words.specs.declared.about.About.{About}
 use Rattle.command_words.specs.declared.about.About.TheVariants.{Plans, Rows, RowsAndPlans}
 use Rattle.command_words.specs.declared.note.Counted.{Counted}
@@ -89,10 +89,34 @@ texts_refuse (note.BadSchema wrong path) = true
 texts_refuse (note.BadSettings wrong path) = true
 texts_refuse other = false
 
+-- the limit of rows that are to be generated
+abbrev pub generated_count : Counted → Bool
+generated_count counted.Rows = true
+generated_count what = false
+
+-- which refusals come of the texts of a table, by where they come from
+abbrev pub source_refuses : TextSource → Note → Bool
+source_refuses (TextFiles schema settings) line = texts_refuse line
+source_refuses (GeneratedTexts rows) (note.TooLarge what limit) = generated_count what
+source_refuses (GeneratedTexts rows) (note.BadSchema wrong path) = true
+source_refuses (GeneratedTexts rows) (note.BadSettings wrong path) = true
+source_refuses (GeneratedTexts rows) other = false
+
 -- the refusals of `create`
-abbrev pub create_refuses : Note → Bool
-create_refuses note.TableExists = true
-create_refuses other = texts_refuse other
+abbrev pub create_refuses : TextSource → Note → Bool
+create_refuses texts note.TableExists = true
+create_refuses texts other = source_refuses texts other
+
+-- the input files that the texts of a table are in
+abbrev pub text_files : TextSource → List (List ℕ × Portion)
+text_files (TextFiles schema settings) = (schema, Front text_limit) ∷ (settings, Front text_limit)
+    ∷ []
+text_files (GeneratedTexts rows) = []
+
+-- the input file that the rows of a segment are in
+abbrev pub row_files : RowSource → List (List ℕ × Portion)
+row_files (CsvFile csv) = (csv, Front csv_limit) ∷ []
+row_files (GeneratedRows rows) = []
 
 -- the refusals of a store that is looked at
 abbrev pub store_refuses : Note → Bool
@@ -189,16 +213,16 @@ profile (Some (Scan file sql)) = record {
   replies = true;
   refuses = scan_refuses;
 }
-profile (Some (Create schema settings)) =
+profile (Some (Create texts)) =
     record {
-      files = (schema, Front text_limit) ∷ (settings, Front text_limit) ∷ [];
+      files = text_files texts;
       store = Writes NoFile (table_name ∷ []);
       replies = true;
-      refuses = create_refuses;
+      refuses = create_refuses texts;
     }
-profile (Some (Build name csv)) =
+profile (Some (Build name rows)) =
     record {
-      files = (csv, Front csv_limit) ∷ [];
+      files = row_files rows;
       store = Writes TableFile (file_of name ∷ []);
       replies = true;
       refuses = build_refuses;

@@ -3,6 +3,7 @@ use Rattle.std.specs.Prelude.{◌≡◌, ◌⊎◌, ℕ, Bool, true, false, List
 use Rattle.std.specs.FinMap as map
 use Rattle.outside.specs.Counts.{Rose}
 use Rattle.outside.specs.Files.{Files, Has, Lacks, OfFile, with_file}
+use Rattle.outside.specs.Seen.{Seen}
 use Rattle.table_store.specs.Accepted.{IsNoTableFile}
 use Rattle.table_store.specs.State.{State}
 use Rattle.table_store.specs.Stands.{Stands}
@@ -10,9 +11,9 @@ use Rattle.table_store.specs.Segments.{HasSegment, IsFull, LacksSegment, most_se
 use Rattle.table_store.specs.TableFile.{table_file, table_name, text_limit}
 use Rattle.command_model.specs.Attach.{AttachRefuses, IsAttached, IsUnlikeInput}
 use Rattle.command_model.specs.Build.{BuildRefuses, IsBuilt}
-use Rattle.command_words.specs.Command.{Attach, Build, Command, Create, Drop, Listing, Look, Open, Scan, Ask}
+use Rattle.command_words.specs.Command.{Ask, Attach, Build, Command, Create, Drop, GeneratedTexts, Listing, Look, Open, RowSource, Scan, TextFiles, TextSource}
 use Rattle.command_model.specs.Consulted.{AtMostRead, Consulted}
-use Rattle.command_model.specs.Create.{Made, new_table}
+use Rattle.command_model.specs.Create.{Made, table_from}
 use Rattle.command_model.specs.Drop.{DropRefuses, IsDropped}
 use Rattle.command_model.specs.Profile.{may_read, place_refuses, profile}
 use Rattle.command_model.specs.Queried.{IsQueried, IsWrongImage, QueryRefuses}
@@ -74,9 +75,9 @@ Queries about sql files (Replies text) = IsQueried about files sql text
 Queries about sql files (Refuses line) = QueryRefuses about sql files line
 
 -- what `build` does over any published files: a segment's file is put among them, or none
-abbrev pub Builds : List ℕ → List ℕ → Files → Files → Answer → Option Files → Type 0
-Builds name csv inputs files (Replies text) new = IsBuilt inputs files name csv text new
-Builds name csv inputs files (Refuses line) new = BuildRefuses name csv inputs files line
+abbrev pub Builds : List ℕ → RowSource → Files → Files → Answer → Option Files → Type 0
+Builds name source inputs files (Replies text) new = IsBuilt inputs files name source text new
+Builds name source inputs files (Refuses line) new = BuildRefuses name source inputs files line
     × (new ≡ Some files)
 
 -- what `attach` does over any published files: a segment's file is put among them, or none
@@ -100,10 +101,9 @@ abbrev pub Over : Option Command → Files → Option Files → Answer → Optio
 Over None inputs old answer new = (answer ≡ Refuses note.BadWords) × (new ≡ old)
 Over (Some (Scan file sql)) inputs old answer new = (answer ≡ scan_answer file sql
     (map.get inputs file)) × (new ≡ old)
-Over (Some (Create schema settings)) inputs old answer new = Creates
-    (new_table schema settings inputs) old answer new
-Over (Some (Build name csv)) inputs old answer new = IfSome old
-    (λ files. Builds name csv inputs files answer new)
+Over (Some (Create texts)) inputs old answer new = Creates (table_from texts inputs) old answer new
+Over (Some (Build name source)) inputs old answer new = IfSome old
+    (λ files. Builds name source inputs files answer new)
 Over (Some (Attach name file)) inputs old answer new = IfSome old
     (λ files. Attaches name file inputs files answer new)
 Over (Some (Drop name)) inputs old answer new = IfSome old (λ files. Drops name files answer new)
@@ -123,10 +123,9 @@ abbrev pub Finds : Option Command → Files → Option Files → Note → Type 0
 Finds None inputs stored line = Unit {0}
 Finds (Some (Scan file sql)) inputs stored line = scan_answer file sql (map.get inputs file)
     ≡ Refuses line
-Finds (Some (Create schema settings)) inputs stored line = new_table schema settings inputs
-    ≡ Err line
-Finds (Some (Build name csv)) inputs stored line = IfSome stored
-    (λ files. BuildRefuses name csv inputs files line)
+Finds (Some (Create texts)) inputs stored line = table_from texts inputs ≡ Err line
+Finds (Some (Build name source)) inputs stored line = IfSome stored
+    (λ files. BuildRefuses name source inputs files line)
 Finds (Some (Attach name file)) inputs stored line = ⊥
 Finds (Some (Drop name)) inputs stored line = ⊥
 Finds (Some (Look aim name)) inputs stored line = ⊥
@@ -152,7 +151,7 @@ IsWrong command inputs files name part = IsWrongTable files name part
 
 -- a name is the one of the segment that a command makes, drops or looks at
 abbrev pub IsNameIn : Option Command → List ℕ → Type 0
-IsNameIn (Some (Build name csv)) other = other ≡ name
+IsNameIn (Some (Build name source)) other = other ≡ name
 IsNameIn (Some (Attach name file)) other = other ≡ name
 IsNameIn (Some (Drop name)) other = other ≡ name
 IsNameIn (Some (Look aim name)) other = other ≡ name
@@ -173,15 +172,20 @@ Caused command inputs stored (note.NotASegment name part) = IfSome stored
     (λ files. IsWrong command inputs files name part)
 Caused command inputs stored line = IfSome inputs (λ files. Finds command files stored line)
 
+-- where a schema is refused, it alone was looked at
+abbrev pub LooksAtSchema : TextSource → Seen → Seen → Type 0
+LooksAtSchema (TextFiles schema settings) old new = ReadsFront schema text_limit old new
+LooksAtSchema (GeneratedTexts rows) old new = new ≡ old
+
 -- how far the inputs were looked at where a command is refused so: by `create` at none where there
 -- is a table, and at the schema alone where it is refused; by `build` and `attach` at none where
 -- the store has no place
 abbrev pub Looked : Option Command → Note → Devices → Devices → Type 0
-Looked (Some (Create schema settings)) note.TableExists old new = IfSome old.depot.held
+Looked (Some (Create texts)) note.TableExists old new = IfSome old.depot.held
     (λ _. new.inputs ≡ old.inputs)
-Looked (Some (Create schema settings))
-    (note.BadSchema wrong path) old new = ReadsFront schema text_limit old.inputs new.inputs
-Looked (Some (Build name csv)) line old new = place_refuses line ≡ true → new.inputs ≡ old.inputs
+Looked (Some (Create texts))
+    (note.BadSchema wrong path) old new = LooksAtSchema texts old.inputs new.inputs
+Looked (Some (Build name source)) line old new = place_refuses line ≡ true → new.inputs ≡ old.inputs
 Looked (Some (Attach name file)) (note.NotASegment of part) old new = IfSome old.depot.held
     (λ files. OfFile (Some files) table_name IsNoTableFile → new.inputs ≡ old.inputs)
 Looked (Some (Attach name file)) line old new = place_refuses line ≡ true

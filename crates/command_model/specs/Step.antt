@@ -11,8 +11,8 @@ use Rattle.table_store.specs.TableFile.{table_name}
 use Rattle.table_store.specs.Images.{Found}
 use Rattle.command_model.specs.Attach.{FitsCheck, attached_rows, attached_text}
 use Rattle.command_model.specs.Build.{built_text, new_rows, table_of}
-use Rattle.command_words.specs.Command.{Attach, Build, Command, Create, Drop, Listing, Look, Open, Scan, Ask, command_of}
-use Rattle.command_model.specs.Create.{Made, new_table}
+use Rattle.command_words.specs.Command.{Ask, Attach, Build, Command, Create, Drop, Listing, Look, Open, RowSource, Scan, command_of}
+use Rattle.command_model.specs.Create.{Made, table_from}
 use Rattle.command_model.specs.Drop.{dropped_text}
 use Rattle.sql_reply.specs.SqlReply.{SqlReply}
 use Rattle.text_scan.specs.TextReply.{TextReply, text_reply}
@@ -165,19 +165,19 @@ with_rows texts segments name table (Ok rows) =
     }
 
 -- the same by the table of its texts; the texts of a store always have one
-abbrev pub with_table : Texts → Segments → List ℕ → List ℕ → Files → Option Table → After
-with_table texts segments name csv inputs None = record {
+abbrev pub with_table : Texts → Segments → List ℕ → RowSource → Files → Option Table → After
+with_table texts segments name source inputs None = record {
   answer = Refuses
       (note.NotASegment table_name (codes "table"));
   state = HasTable texts segments;
 }
-with_table texts segments name csv inputs (Some table) = with_rows texts segments name table
-    (new_rows table segments name csv inputs)
+with_table texts segments name source inputs (Some table) = with_rows texts segments name table
+    (new_rows table segments name source inputs)
 
 -- what `build` leaves
-abbrev pub built : State → List ℕ → List ℕ → Files → After
-built NoTable name csv inputs = record { answer = Refuses note.NoTable; state = NoTable }
-built (HasTable texts segments) name csv inputs = with_table texts segments name csv inputs
+abbrev pub built : State → List ℕ → RowSource → Files → After
+built NoTable name source inputs = record { answer = Refuses note.NoTable; state = NoTable }
+built (HasTable texts segments) name source inputs = with_table texts segments name source inputs
     (table_of texts)
 
 -- the store after `attach`, by the rows for its segment
@@ -239,12 +239,12 @@ step_of state (Some (Scan file sql)) inputs found = record {
       (map.get inputs file);
   state = state;
 }
-step_of state (Some (Create schema settings)) inputs found =
+step_of state (Some (Create texts)) inputs found =
     record {
-      answer = create_answer (has_table state) (new_table schema settings inputs);
-      state = created state (new_table schema settings inputs);
+      answer = create_answer (has_table state) (table_from texts inputs);
+      state = created state (table_from texts inputs);
     }
-step_of state (Some (Build name csv)) inputs found = built state name csv inputs
+step_of state (Some (Build name source)) inputs found = built state name source inputs
 step_of state (Some (Attach name file)) inputs found = attached state name file inputs found
 step_of state (Some (Drop name)) inputs found = dropped state name
 step_of state (Some (Look aim name)) inputs found = record {

@@ -13,7 +13,7 @@ pub use csv_ingest::CSV_LIMIT;
 pub use image::read_image;
 pub use input::read_input;
 pub use laws::may_write_law;
-pub use new_table::{NewTable, read_table};
+pub use new_table::{MOST_GENERATED, NewTable, own_table, read_table};
 pub use part_name::{head_stop, segment_stop};
 pub use rows::{csv_columns, read_rows};
 pub use store::{no_segment, stored_names, stored_rows, stored_table, table_with_place};

@@ -6,8 +6,10 @@ ghost use Rattle.json_keys.specs.declared.fault.KeyKind.{KeyKind};
 ghost use Rattle.settings_json.specs.TableTexts.{settings_read};
 ghost use Rattle.table_schema.specs.Valid.{IsValidSchema};
 ghost use Rattle.table_store.specs.TableFile.{FitsTable, text_limit};
-ghost use Rattle.command_model.specs.Create.{beside, json_in, new_table, schema_in, settings_in};
-ghost use Rattle.command_model.specs.Gives.{StopsBy};
+ghost use Rattle.command_words.specs.Command.{GeneratedTexts};
+ghost use Rattle.command_model.specs.Create.{beside, json_in, new_table, own_table, schema_in, settings_in};
+ghost use Rattle.command_model.specs.Generated.{generated_schema, generated_settings};
+ghost use Rattle.command_model.specs.Gives.{StopsBy, StopsTexts};
 ghost use Rattle.command_model.specs.Profile.{Front};
 ghost use Rattle.command_model.specs.Touched.{Reads, ReadsFront};
 ghost use Rattle.outside.specs.Seen.{seen};
@@ -15,12 +17,15 @@ ghost use Rattle.outside.specs.Seen.{seen};
 use crate::input::read_input;
 use command_words::{Counted, Fault, Note, Stop};
 use json_keys::TextFault;
-use outside::{Bytes, Shelf};
+use outside::{Bytes, Seq, Shelf};
 use schema_json::read_schema;
 use settings_json::read_settings;
 use std::alloc::Global;
 use table_schema::{Schema, Settings, Table};
 use table_store::TEXT_LIMIT;
+
+/// The most rows that are generated.
+pub const MOST_GENERATED: u32 = 1_048_576;
 
 /// A table that is to be made: its texts, and what they are read as.
 #[derive(Drop)]
@@ -157,4 +162,47 @@ pub fn read_table<I: Shelf>(
         settings: settings_text,
         table: Table { schema, settings },
     })
+}
+
+/// The program's own table, for so many rows that are to be generated.
+pub fn own_table(alloc: Global, rows: u32) -> Result<NewTable, Stop>
+    ensures made { IfOk result (λ new. own_table rows
+        ≡ Ok (record { schema = new.schema; settings = new.settings }, new.table)) }
+    ensures fits { IfOk result (λ new.
+        FitsTable (record { schema = new.schema; settings = new.settings })) }
+    ensures stops { IfErr result (StopsTexts (GeneratedTexts rows) (Some (own_table rows)) ⊥) }
+{
+    if rows > MOST_GENERATED {
+        return Err(Stop::Refused(Note::TooLarge(Counted::Rows, u64::from(MOST_GENERATED))));
+    }
+    let schema_text = schema_text().to_vec(alloc)?;
+    let schema = schema_of(alloc, schema_text.as_slice())?;
+    let settings_text = settings_text().to_vec(alloc)?;
+    let settings = settings_of(alloc, &schema, settings_text.as_slice())?;
+    Ok(NewTable {
+        schema: Seq::from_vec(schema_text),
+        settings: Seq::from_vec(settings_text),
+        table: Table { schema, settings },
+    })
+}
+
+// The text of its schema.
+fn schema_text() -> &'static [u8]
+    ensures { result.now ≡ generated_schema }
+{
+    b"{\"schemaName\":\"gen\",\"dimensionFieldSpecs\":[\
+{\"name\":\"a\",\"dataType\":\"STRING\"},\
+{\"name\":\"b\",\"dataType\":\"LONG\"},\
+{\"name\":\"c\",\"dataType\":\"LONG\"}],\
+\"metricFieldSpecs\":[{\"name\":\"m\",\"dataType\":\"LONG\"}]}"
+}
+
+// The text of its settings.
+fn settings_text() -> &'static [u8]
+    ensures { result.now ≡ generated_settings }
+{
+    b"{\"tableName\":\"gen\",\"tableType\":\"OFFLINE\",\
+\"tableIndexConfig\":{\"starTreeIndexConfigs\":[{\
+\"dimensionsSplitOrder\":[\"a\",\"b\",\"c\"],\
+\"functionColumnPairs\":[\"COUNT__*\",\"SUM__m\"],\"maxLeafRecords\":100}]}}"
 }

@@ -1,5 +1,5 @@
 -- The words of a command.
-use Rattle.std.specs.Prelude.{ℕ, Bool, true, false, List, [], ◌∷◌, Option, Some, None, codes, ◌&&◌, if◌then◌else◌}
+use Rattle.std.specs.Prelude.{ℕ, ◌+◌, ◌-◌, ◌*◌, Bool, true, false, List, [], ◌∷◌, Option, Some, None, codes, length, nat_le, nat_lt, ◌&&◌, if◌then◌else◌}
 use Rattle.std.specs.Str.{bytes_eq}
 use Rattle.segment_file.specs.Names.{is_segment_name}
 use Rattle.command_words.specs.declared.about.About.{About}
@@ -7,11 +7,23 @@ use Rattle.command_words.specs.declared.about.About.TheVariants.{Plans, Rows, Ro
 use Rattle.command_words.specs.declared.aim.Aim.{Aim}
 use Rattle.command_words.specs.declared.aim.Aim.TheVariants.{Dump, Verify}
 
+-- where the texts of a table come from: the files of its schema and of its settings, or, where so
+-- many rows are to be generated, the program, which no words of a command spell
+pub data TextSource : Type 0 where
+  TextFiles : (schema settings : List ℕ) → TextSource
+  GeneratedTexts : (rows : ℕ) → TextSource
+
+-- where the rows of a segment come from: a CSV file, or so many of the program, which no words of a
+-- command spell
+pub data RowSource : Type 0 where
+  CsvFile : (csv : List ℕ) → RowSource
+  GeneratedRows : (rows : ℕ) → RowSource
+
 -- what the words of a command ask for
 pub data Command : Type 0 where
   Scan : (file sql : List ℕ) → Command
-  Create : (schema settings : List ℕ) → Command
-  Build : (name csv : List ℕ) → Command
+  Create : (texts : TextSource) → Command
+  Build : (name : List ℕ) (rows : RowSource) → Command
   Drop : (name : List ℕ) → Command
   Look : (aim : Aim) (name : List ℕ) → Command
   Attach : (name file : List ℕ) → Command
@@ -33,16 +45,17 @@ command_of (verb ∷ first ∷ []) =
     else None
 command_of (verb ∷ first ∷ second ∷ []) =
     if bytes_eq verb (codes "scan") then Some (Scan first second)
-    else if bytes_eq verb (codes "create") then Some (Create first second)
-    else if bytes_eq verb (codes "build") && is_segment_name first then Some (Build first second)
+    else if bytes_eq verb (codes "create") then Some (Create (TextFiles first second))
+    else if bytes_eq verb (codes "build") && is_segment_name first then Some
+    (Build first (CsvFile second))
     else if bytes_eq verb (codes "attach") && is_segment_name first then Some (Attach first second)
     else None
 command_of words = None
 
 -- whether a command may write the store
 abbrev pub writes : Option Command → Bool
-writes (Some (Create schema settings)) = true
-writes (Some (Build name csv)) = true
+writes (Some (Create texts)) = true
+writes (Some (Build name rows)) = true
 writes (Some (Attach name file)) = true
 writes (Some (Drop name)) = true
 writes (Some (Scan file sql)) = false
@@ -52,17 +65,51 @@ writes (Some (Ask about sql)) = false
 writes (Some (Open file)) = false
 writes None = false
 
--- ---- scripts
+-- ---- rows that are to be generated
 
--- what the words of a call ask for: the commands of a file, or one command, if they spell one
+-- `0` to `9`
+abbrev pub is_digit : ℕ → Bool
+is_digit byte = nat_le 48 byte && nat_le byte 57
+
+-- the number that digits spell after those of this number, of at most seven digits in all
+abbrev pub number_after : ℕ → List ℕ → Option ℕ
+number_after before [] = Some before
+number_after before (digit ∷ digits) = if is_digit digit && nat_lt before 1000000 then number_after
+    (before * 10 + (digit - 48)) digits else None
+
+-- the number that one to seven digits spell
+abbrev pub number_of : List ℕ → Option ℕ
+number_of digits = if nat_le 1 (length digits) && nat_le (length digits) 7 then number_after 0
+    digits else None
+
+-- how many rows these words ask to be generated, if they do
+abbrev pub rows_asked : List (List ℕ) → Option ℕ
+rows_asked (verb ∷ digits ∷ []) = if bytes_eq verb (codes "generate") then number_of digits
+    else None
+rows_asked words = None
+
+-- ---- requests
+
+-- what words ask for: the commands of a file, or one command, if they spell one, or rows that are
+-- to be generated, which several commands do
 pub data Request : Type 0 where
   Script : (file : List ℕ) → Request
   One : (command : Option Command) → Request
+  Generate : (rows : ℕ) → Request
 
--- two words are a script or one command
+-- so many rows that are to be generated, or a command
+abbrev pub unless_rows : Option ℕ → Option Command → Request
+unless_rows None command = One command
+unless_rows (Some rows) command = Generate rows
+
+-- what words that ask for no script ask for, as those of a line of one
+abbrev pub request_of : List (List ℕ) → Request
+request_of words = unless_rows (rows_asked words) (command_of words)
+
+-- two words are a script or what a line may ask for
 abbrev pub by_verb : Bool → List (List ℕ) → List ℕ → Request
 by_verb true words file = Script file
-by_verb false words file = One (command_of words)
+by_verb false words file = request_of words
 
 -- what these words ask for
 abbrev pub call_of : List (List ℕ) → Request
@@ -73,6 +120,7 @@ call_of words = One (command_of words)
 abbrev pub asks_write : Request → Bool
 asks_write (Script file) = true
 asks_write (One command) = writes command
+asks_write (Generate rows) = true
 
 -- whether what these words ask for may write the store
 abbrev pub may_write : List (List ℕ) → Bool

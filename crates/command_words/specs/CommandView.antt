@@ -7,8 +7,8 @@ use Rattle.command_words.specs.declared.command.Command.TheVariants as code
 -- the command that a value of the code stands for
 abbrev pub command_view : Command → spec.Command
 command_view (code.Scan file sql) = spec.Scan file.now sql.now
-command_view (code.Create schema settings) = spec.Create schema.now settings.now
-command_view (code.Build name csv) = spec.Build name.now csv.now
+command_view (code.Create schema settings) = spec.Create (spec.TextFiles schema.now settings.now)
+command_view (code.Build name csv) = spec.Build name.now (spec.CsvFile csv.now)
 command_view (code.Drop name) = spec.Drop name.now
 command_view (code.Look aim name) = spec.Look aim name.now
 command_view (code.Attach name file) = spec.Attach name.now file.now

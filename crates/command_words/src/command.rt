@@ -1,6 +1,6 @@
 //! The words of a command.
 ghost use Rattle.std.specs.Prelude.{◌≡◌, map, option_map, string_bytes, IfSome, MatchOption};
-ghost use Rattle.command_words.specs.Command.{One, Script, call_of, command_of, may_write};
+ghost use Rattle.command_words.specs.Command.{Script, call_of, command_of, request_of, may_write, number_after, number_of, rows_asked};
 ghost use Rattle.command_words.specs.CommandView.{IsNamed, command_view};
 
 use crate::about::About;
@@ -78,7 +78,7 @@ pub fn read_command(words: &[String]) -> Option<Command<'_>>
 /// The file of the script that these words ask for, if they ask for one.
 pub fn script_file(words: &[String]) -> Option<&str>
     ensures { MatchOption result (call_of (map string_bytes words.now)
-        ≡ One (command_of (map string_bytes words.now)))
+        ≡ request_of (map string_bytes words.now))
         (λ file. call_of (map string_bytes words.now) ≡ Script file.now) }
 {
     if let [verb, file] = words {
@@ -89,12 +89,49 @@ pub fn script_file(words: &[String]) -> Option<&str>
     None
 }
 
+/// How many rows these words ask to be generated, if they do.
+pub fn rows_asked(words: &[String]) -> Option<u32>
+    ensures { result ≡ rows_asked (map string_bytes words.now) }
+{
+    if let [verb, digits] = words {
+        if verb.as_str().as_bytes() == b"generate".as_slice() {
+            return number_of(digits.as_str().as_bytes());
+        }
+    }
+    None
+}
+
+// The number that one to seven digits spell.
+fn number_of(digits: &[u8]) -> Option<u32>
+    ensures { result ≡ number_of digits.now }
+{
+    if digits.is_empty() || digits.len() > 7 {
+        return None;
+    }
+    number_after(0, digits)
+}
+
+// The number that digits spell after those of this number, of at most seven digits in all.
+fn number_after(before: u32, digits: &[u8]) -> Option<u32>
+    ensures { result ≡ number_after before digits.now }
+{
+    match digits {
+        [] => Some(before),
+        [digit, rest @ ..] => {
+            if !digit.is_ascii_digit() || before >= 1_000_000 {
+                return None;
+            }
+            number_after(before * 10 + u32::from(*digit - b'0'), rest)
+        }
+    }
+}
+
 /// Whether what these words ask for may write the store. Words of which it says no leave each store
 /// as it is.
 pub fn may_write(words: &[String]) -> bool
     ensures { result ≡ may_write (map string_bytes words.now) }
 {
-    if script_file(words).is_some() {
+    if script_file(words).is_some() || rows_asked(words).is_some() {
         return true;
     }
     match read_command(words) {

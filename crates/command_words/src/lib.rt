@@ -14,7 +14,7 @@ mod stop;
 pub use about::About;
 pub use aim::Aim;
 pub use bad_query::QueryReason;
-pub use command::{Command, may_write, read_command, script_file};
+pub use command::{Command, may_write, read_command, rows_asked, script_file};
 pub use fault::Fault;
 pub use line::{note_line, status_of};
 pub use note::{Counted, Note};

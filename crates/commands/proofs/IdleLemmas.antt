@@ -17,7 +17,8 @@ use Rattle.command_model.specs.Profile.{NoFile, Opens, SegmentFile, StoreFiles, 
 use Rattle.command_model.specs.Ran.{Ran}
 use Rattle.command_model.specs.Touched.{IsFileFor, IsStoreFile, LogsOpened, OnlyLooks, Touched, WritesThese}
 use Rattle.command_model.specs.World.{Devices}
-use Rattle.command_model.proofs.CreateLemmas.{names_same, no_files, no_front}
+use Rattle.command_model.proofs.CreateLemmas.{names_same, no_front, no_texts}
+use Rattle.command_model.proofs.BuildLemmas.{not_read}
 use Rattle.command_model.proofs.StoredLemmas.{told_all}
 use Rattle.commands.proofs.AttachLemmas.{no_file}
 use Rattle.commands.proofs.ReadLemmas.{stored_heads, stored_table, unread}
@@ -38,8 +39,8 @@ writes opens names s = record { held = names_same names s.held; parts = names_sa
 touched : (command : Option Command) (now : Devices) → Touched command now now
 touched None now = record { inputs = refl; depot = refl }
 touched (Some (Scan file sql)) now = record { inputs = (now.inputs, no_front file csv_limit now.inputs, refl); depot = refl }
-touched (Some (Create schema settings)) now = record { inputs = no_files schema settings now.inputs; depot = writes NoFile (table_name ∷ []) now.depot }
-touched (Some (Build name csv)) now = record { inputs = (now.inputs, no_front csv csv_limit now.inputs, refl); depot = writes TableFile (file_of name ∷ []) now.depot }
+touched (Some (Create texts)) now = record { inputs = no_texts texts now.inputs; depot = writes NoFile (table_name ∷ []) now.depot }
+touched (Some (Build name source)) now = record { inputs = not_read source now.inputs; depot = writes TableFile (file_of name ∷ []) now.depot }
 touched (Some (Attach name file)) now = record { inputs = (now.inputs, no_file file now.inputs, refl); depot = writes TableFile (file_of name ∷ []) now.depot }
 touched (Some (Drop name)) now = record { inputs = refl; depot = writes TableFile (file_of name ∷ []) now.depot }
 touched (Some (Look aim name)) now = record { inputs = refl; depot = looks (SegmentFile name) now.depot }
@@ -50,8 +51,8 @@ touched (Some (Open file)) now = record { inputs = (now.inputs, no_front file sc
 at_most : DocsAreBounded → (command : Option Command) (now : Devices) → AtMostRead command now now
 at_most law None now = tt
 at_most law (Some (Scan file sql)) now = tt
-at_most law (Some (Create schema settings)) now = tt
-at_most law (Some (Build name csv)) now = tt
+at_most law (Some (Create texts)) now = tt
+at_most law (Some (Build name source)) now = tt
 at_most law (Some (Attach name file)) now = tt
 at_most law (Some (Drop name)) now = tt
 at_most law (Some (Look aim name)) now = told_all now.depot.held (λ files. LacksSegment (Some files) name → LogsOpened TableFile now.depot.log now.depot.log) (λ files lacks. none_opened TableFile now.depot.log)

@@ -5,7 +5,7 @@ ghost use Rattle.outside.specs.Seen.{Seen, seen};
 ghost use Rattle.values.specs.Columns.{rows_of};
 ghost use Rattle.segment_file.specs.Names.{IsSegmentName, file_of};
 ghost use Rattle.table_schema.specs.ValidTable.{AreRows, IsValidTable};
-ghost use Rattle.command_words.specs.Command.{Build};
+ghost use Rattle.command_words.specs.Command.{Build, CsvFile};
 ghost use Rattle.command_model.specs.Gives.{FindsPlace, Publishes};
 ghost use Rattle.command_model.specs.Profile.{NoFile};
 ghost use Rattle.command_model.specs.Ran.{Ran};
@@ -30,7 +30,7 @@ pub fn build<I: Shelf, D: Depot>(
     depot: &mut D,
 ) -> Result<Bytes, Stop>
     requires { IsSegmentName name.now }
-    ensures { Ran (Some (Build name.now csv.now))
+    ensures { Ran (Some (Build name.now (CsvFile csv.now)))
         (devices I.Shelf D.Shelf inputs.old depot.old)
         (devices I.Shelf D.Shelf inputs.new depot.new) result }
 {
@@ -50,7 +50,7 @@ fn build_in<I: Shelf, D: Depot>(
     requires name { IsSegmentName name.now }
     requires valid { IsValidTable table.now }
     ensures { (first : Seen) → FindsPlace name.now first (seen D.Shelf depot.old) (Ok table.now)
-        → Ran (Some (Build name.now csv.now))
+        → Ran (Some (Build name.now (CsvFile csv.now)))
         (record { inputs = seen I.Shelf inputs.old; depot = first })
         (devices I.Shelf D.Shelf inputs.new depot.new) result }
 {
@@ -58,9 +58,9 @@ fn build_in<I: Shelf, D: Depot>(
     publish(alloc, table, name, columns, depot)
 }
 
-// Publishes a segment of rows, where their star-trees are not too large. The reply is made before
-// the store is written.
-fn publish<D: Depot>(
+/// Publishes a segment of rows, where their star-trees are not too large. The reply is made before
+/// the store is written.
+pub(crate) fn publish<D: Depot>(
     alloc: Global,
     table: &Table,
     name: &str,

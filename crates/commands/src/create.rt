@@ -3,7 +3,7 @@ ghost use Rattle.std.specs.Prelude.{◌≡◌, true, false, [], ◌∷◌, Some,
 ghost use Rattle.outside.specs.Counts.{Rose};
 ghost use Rattle.outside.specs.Files.{Has, Lacks};
 ghost use Rattle.table_store.specs.TableFile.{FitsTable, table_name};
-ghost use Rattle.command_words.specs.Command.{Create};
+ghost use Rattle.command_words.specs.Command.{Create, TextFiles};
 ghost use Rattle.command_model.specs.Gives.{Makes, StopsLook};
 ghost use Rattle.command_model.specs.Profile.{NoFile};
 ghost use Rattle.command_model.specs.Ran.{Ran};
@@ -25,7 +25,7 @@ pub fn create<I: Shelf, D: Depot>(
     inputs: &mut I,
     depot: &mut D,
 ) -> Result<Bytes, Stop>
-    ensures { Ran (Some (Create schema.now settings.now))
+    ensures { Ran (Some (Create (TextFiles schema.now settings.now)))
         (devices I.Shelf D.Shelf inputs.old depot.old)
         (devices I.Shelf D.Shelf inputs.new depot.new) result }
 {
@@ -46,8 +46,8 @@ fn created(alloc: Global, table: &[u8]) -> Result<Bytes, AllocError>
     Ok(Seq::from_vec(text))
 }
 
-// Makes a table. The reply is made before the store is written.
-fn make<D: Depot>(alloc: Global, new: &NewTable, depot: &mut D) -> Result<Bytes, Stop>
+/// Makes a table. The reply is made before the store is written.
+pub(crate) fn make<D: Depot>(alloc: Global, new: &NewTable, depot: &mut D) -> Result<Bytes, Stop>
     requires { FitsTable (record { schema = new.now.schema; settings = new.now.settings }) }
     ensures makes { Makes (record { schema = new.now.schema; settings = new.now.settings })
         new.now.table (seen D.Shelf depot.old) (seen D.Shelf depot.new) result }
@@ -76,8 +76,8 @@ fn make<D: Depot>(alloc: Global, new: &NewTable, depot: &mut D) -> Result<Bytes,
     }
 }
 
-// Whether the store has a table.
-fn finds_table<D: Depot>(alloc: Global, depot: &mut D) -> Result<bool, Stop>
+/// Whether the store has a table.
+pub(crate) fn finds_table<D: Depot>(alloc: Global, depot: &mut D) -> Result<bool, Stop>
     ensures yes { result ≡ Ok true → Has (D.held depot.old) table_name }
     ensures no { result ≡ Ok false → Lacks (D.held depot.old) table_name }
     ensures stops { IfErr result (StopsLook

@@ -5,6 +5,8 @@ pub mod attach;
 pub mod build;
 pub mod create;
 pub mod drop;
+pub mod generate;
+mod generated;
 pub mod laws;
 pub mod list;
 pub mod look;

@@ -109,8 +109,8 @@ module _ (table : Table) (name : List ℕ) (rows : List (List Value)) where
   of_line : (command : Option Command) (done : Bool) (x : List Entry) → goes_by_plan name command ≡ true → ReadsSegment command done table name rows x → OfPlan done (scans table rows command) (λ n. docs_of table rows n command) x
   of_line None done x keeps r = none_of done x r
   of_line (Some (ScanFile file sql)) done x keeps r = none_of done x r
-  of_line (Some (Create schema settings)) done x keeps r = none_of done x r
-  of_line (Some (Build other csv)) done x keeps r = none_of done x r
+  of_line (Some (Create made)) done x keeps r = none_of done x r
+  of_line (Some (Build other source)) done x keeps r = none_of done x r
   of_line (Some (Attach other file)) done x keeps r = none_of done x r
   of_line (Some (Drop other)) done x keeps r = none_of done x r
   of_line (Some (Look aim asked)) done x keeps r = none_of done x (r (of_other aim asked keeps))

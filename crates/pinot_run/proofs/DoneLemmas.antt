@@ -25,7 +25,7 @@ use Rattle.pinot_run.proofs.PromiseLemmas.{nothing_more}
 use Rattle.pinot_run.proofs.ScriptLifts.{script_lift}
 
 -- a command that ended without a fault gave all of its step
-given_of : (Has : (After → Type 0) → Type 0) (old : Stage State) (ended : Status) (new : Stage State) → is_fault ended ≡ false → LeavesOf Has old ended new → Has (λ after. IsGiven after.answer ended old new × (new.kept ≡ after.state))
+pub given_of : (Has : (After → Type 0) → Type 0) (old : Stage State) (ended : Status) (new : Stage State) → is_fault ended ≡ false → LeavesOf Has old ended new → Has (λ after. IsGiven after.answer ended old new × (new.kept ≡ after.state))
 given_of Has old status.ReadFault new fine l = absurd cc
 given_of Has old status.WriteFault new fine l = absurd cc
 given_of Has old status.NoMemory new fine l = absurd cc

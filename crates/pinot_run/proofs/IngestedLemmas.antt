@@ -20,7 +20,7 @@ use Rattle.table_store.specs.State.{HasTable, NoTable, Segment, Segments, State,
 use Rattle.table_store.proofs.DropLemmas.{got_left, got_none}
 use Rattle.table_store.proofs.FilesLemmas.{other_name}
 use Rattle.table_store.proofs.NameLemmas.{is_name}
-use Rattle.command_words.specs.Command.{Ask, Attach, Build, Command, Create, Drop, Listing, Look, Open, Scan}
+use Rattle.command_words.specs.Command.{Ask, Attach, Build, Command, Create, Drop, Listing, Look, Open, RowSource, Scan}
 use Rattle.command_words.specs.declared.about.About.TheVariants.{Rows, RowsAndPlans}
 use Rattle.command_words.specs.declared.note.Note.{Note}
 use Rattle.command_words.specs.declared.status.Status.{Status}
@@ -34,7 +34,7 @@ use Rattle.table_store.specs.Stands.{Stands}
 use Rattle.table_store.proofs.AcceptedLemmas.{accepted_valid}
 use Rattle.command_model.specs.Attach.{AsksCheck, FitsCheck, attached_rows, file_rows}
 use Rattle.command_model.specs.Build.{new_rows, table_of}
-use Rattle.command_model.specs.Create.{Made, new_table}
+use Rattle.command_model.specs.Create.{Made, table_from}
 use Rattle.command_model.specs.Queried.{all_rows, each_rows, rows_in}
 use Rattle.command_model.specs.Step.{After, HasStep, IsFinding, Replies, attached_to, created, rows_answer, sql_answered, step_of, text_of, with_attached, with_rows, with_table, without_segment}
 use Rattle.command_model.specs.World.{Stage}
@@ -119,7 +119,7 @@ pub free_by : (o : Option Segment) (line : Note) (rest : Result (List (List Valu
 free_by None line rest rows e = refl
 free_by (Some segment) line rest rows e = absurd cc
 
-module _ (name csv : List ℕ) (files : Files) (texts : Texts) (segments : Segments) where
+module _ (name : List ℕ) (csv : RowSource) (files : Files) (texts : Texts) (segments : Segments) where
   rows_change : (table : Table) → table_of texts ≡ Some table → (r : Result (List (List Value)) Note) → new_rows table segments name csv files ≡ r
       → Changes (Some (Build name csv)) files (HasTable texts segments) (with_rows texts segments name table r).state
   rows_change table is (Err line) e = inl refl
@@ -133,7 +133,7 @@ module _ (name csv : List ℕ) (files : Files) (texts : Texts) (segments : Segme
         from_is = refl;
         table_is = is;
         free = free_by (map.get segments name) _ _ rows e;
-        source = inl (record { csv = csv; command_is = refl; rows_are = e });
+        source = inl (record { from = csv; command_is = refl; rows_are = e });
         to_is = refl;
       })))
 
@@ -194,7 +194,7 @@ dropped_changes name files texts segments false is = inl refl
 changes : (from : State) (command : Option Command) (files : Files) (found : Found) → IsFinding command from files found → Changes command files from (step_of from command files found).state
 changes from None files found fits = inl refl
 changes from (Some (Scan file sql)) files found fits = inl refl
-changes from (Some (Create schema settings)) files found fits = created_changes (Some (Create schema settings)) files from (new_table schema settings files)
+changes from (Some (Create made)) files found fits = created_changes (Some (Create made)) files from (table_from made files)
 changes NoTable (Some (Build name csv)) files found fits = inl refl
 changes (HasTable texts segments) (Some (Build name csv)) files found fits = table_changes name csv files texts segments (table_of texts) refl
 changes NoTable (Some (Attach name file)) files found fits = inl refl
@@ -256,7 +256,7 @@ the_name other (Some (Attach name file)) = name
 the_name other (Some (Drop name)) = name
 the_name other command = other
 
-abbrev the_csv : List ℕ → Option Command → List ℕ
+abbrev the_csv : RowSource → Option Command → RowSource
 the_csv other (Some (Build name csv)) = csv
 the_csv other command = other
 
@@ -283,30 +283,30 @@ segment_or other (Some segment) = segment
 pub none_some : (segment : Segment) → None ≢ Some segment
 none_some segment e = absurd cc
 
-build_drop : {A : Type 0} (name csv gone : List ℕ) → Some (Build name csv) ≡ Some (Drop gone) → A
+build_drop : {A : Type 0} (name : List ℕ) (csv : RowSource) (gone : List ℕ) → Some (Build name csv) ≡ Some (Drop gone) → A
 build_drop name csv gone e = absurd cc
 
 attach_drop : {A : Type 0} (name file gone : List ℕ) → Some (Attach name file) ≡ Some (Drop gone) → A
 attach_drop name file gone e = absurd cc
 
-build_attach : {A : Type 0} (name csv other file : List ℕ) → Some (Build name csv) ≡ Some (Attach other file) → A
+build_attach : {A : Type 0} (name : List ℕ) (csv : RowSource) (other file : List ℕ) → Some (Build name csv) ≡ Some (Attach other file) → A
 build_attach name csv other file e = absurd cc
 
 -- no source of rows is a drop
 source_drop : {A : Type 0} (command : Option Command) (files : Files) (texts : Texts) (segments : Segments) (table : Table) (name : List ℕ) (rows : List (List Value)) (gone : List ℕ) → IsSource command files texts segments table name rows → command ≡ Some (Drop gone) → A
-source_drop command files texts segments table name rows gone (inl b) e = build_drop name b.csv gone (sym b.command_is ∙ e)
+source_drop command files texts segments table name rows gone (inl b) e = build_drop name b.from gone (sym b.command_is ∙ e)
 source_drop command files texts segments table name rows gone (inr a) e = attach_drop name a.file gone (sym a.command_is ∙ e)
 
 -- it is of its own name
 source_on : (command : Option Command) (files : Files) (texts : Texts) (segments : Segments) (table : Table) (name : List ℕ) (rows : List (List Value)) → IsSource command files texts segments table name rows → IsOn name command
-source_on command files texts segments table name rows (inl b) = inl (b.csv, b.command_is)
+source_on command files texts segments table name rows (inl b) = inl (b.from, b.command_is)
 source_on command files texts segments table name rows (inr a) = inr (inl (a.file, a.command_is))
 
 -- and of no other
 source_name : (command : Option Command) (files : Files) (texts : Texts) (segments : Segments) (table : Table) (name : List ℕ) (rows : List (List Value)) (other : List ℕ) → IsSource command files texts segments table name rows → IsOn other command → other ≡ name
 source_name command files texts segments table name rows other (inl b) (inl (csv, is)) = ap (the_name other) (sym is ∙ b.command_is)
-source_name command files texts segments table name rows other (inl b) (inr (inl (file, is))) = build_attach name b.csv other file (sym b.command_is ∙ is)
-source_name command files texts segments table name rows other (inl b) (inr (inr is)) = build_drop name b.csv other (sym b.command_is ∙ is)
+source_name command files texts segments table name rows other (inl b) (inr (inl (file, is))) = build_attach name b.from other file (sym b.command_is ∙ is)
+source_name command files texts segments table name rows other (inl b) (inr (inr is)) = build_drop name b.from other (sym b.command_is ∙ is)
 source_name command files texts segments table name rows other (inr a) (inl (csv, is)) = build_attach other csv name a.file (sym is ∙ a.command_is)
 source_name command files texts segments table name rows other (inr a) (inr (inl (file, is))) = ap (the_name other) (sym is ∙ a.command_is)
 source_name command files texts segments table name rows other (inr a) (inr (inr is)) = attach_drop name a.file other (sym a.command_is ∙ is)
@@ -315,12 +315,12 @@ source_name command files texts segments table name rows other (inr a) (inr (inr
 source_once : (command : Option Command) (files : Files) (texts : Texts) (segments : Segments) (table : Table) (name other : List ℕ) (rows own : List (List Value)) → IsAccepted texts table → IsSegmentName other
     → IsSource command files texts segments table name rows → IsSource command files texts segments table other own → (name ≡ other) × (rows ≡ own)
 source_once command files texts segments table name other rows own accepted named (inl a) (inl b) =
-    let one : Some (Build name a.csv) ≡ Some (Build other b.csv) = sym a.command_is ∙ b.command_is in
+    let one : Some (Build name a.from) ≡ Some (Build other b.from) = sym a.command_is ∙ b.command_is in
     let names : name ≡ other = ap (the_name name) one in
-    let csvs : a.csv ≡ b.csv = ap (the_csv a.csv) one in
+    let csvs : a.from ≡ b.from = ap (the_csv a.from) one in
     (names, ap (rows_or rows) (sym a.rows_are ∙ (λ k. new_rows table segments (names k) (csvs k) files) ∙ b.rows_are))
-source_once command files texts segments table name other rows own accepted named (inl a) (inr b) = build_attach name a.csv other b.file (sym a.command_is ∙ b.command_is)
-source_once command files texts segments table name other rows own accepted named (inr a) (inl b) = build_attach other b.csv name a.file (sym b.command_is ∙ a.command_is)
+source_once command files texts segments table name other rows own accepted named (inl a) (inr b) = build_attach name a.from other b.file (sym a.command_is ∙ b.command_is)
+source_once command files texts segments table name other rows own accepted named (inr a) (inl b) = build_attach other b.from name a.file (sym b.command_is ∙ a.command_is)
 source_once command files texts segments table name other rows own accepted named (inr a) (inr b) =
     let one : Some (Attach name a.file) ≡ Some (Attach other b.file) = sym a.command_is ∙ b.command_is in
     let names : name ≡ other = ap (the_name name) one in

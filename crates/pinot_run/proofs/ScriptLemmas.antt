@@ -8,7 +8,7 @@ use Rattle.std.proofs.lemmas.Iterator.{YieldsList}
 use Rattle.std.proofs.lemmas.List.{map-append, take_all, take_more}
 use denote.Ref.{Bor}
 use Rattle.outside.specs.Seen.{Heard}
-use Rattle.command_words.specs.Command.{Command, One, Request, Script}
+use Rattle.command_words.specs.Command.{Command, Generate, One, Request, Script}
 use Rattle.command_words.specs.Notes.{is_fault, status_of, status_of_fault}
 use Rattle.command_words.specs.declared.fault.Fault.{Fault}
 use Rattle.command_words.specs.declared.fault.Fault.TheVariants as fault
@@ -17,8 +17,9 @@ use Rattle.command_words.specs.declared.note.Note.TheVariants as note
 use Rattle.command_words.specs.declared.status.Status.{Status}
 use Rattle.command_words.specs.declared.status.Status.TheVariants as status
 use Rattle.command_model.specs.World.{World}
+use Rattle.pinot_run.specs.Generate.{Generates}
 use Rattle.pinot_run.specs.Promise.{Noted, Promise}
-use Rattle.pinot_run.specs.Script.{Does, EndsAt, GivesMark, GoesOn, OfOne, OfScript, RunsLines, RunsScript}
+use Rattle.pinot_run.specs.Script.{Does, EndsAt, GivesMark, GoesOn, OfOne, OfRows, OfScript, RunsLines, RunsScript}
 use Rattle.pinot_run.specs.Text.{has_bytes, line_command}
 use Rattle.pinot_run.proofs.PromiseLemmas.{GaveText, nothing_more, unnoted}
 
@@ -27,10 +28,17 @@ use Rattle.pinot_run.proofs.PromiseLemmas.{GaveText, nothing_more, unnoted}
 pub of_one : (Q : Option Command → Type 0) (request : Request) (old : World) (ended : Status) (new : World) → ((command : Option Command) → Promise command old ended new → Q command) → Does Promise request old ended new → OfOne request Q
 of_one Q (Script file) old ended new f does = tt
 of_one Q (One command) old ended new f does = f command does
+of_one Q (Generate rows) old ended new f does = tt
 
 pub of_script : (request : Request) (old : World) (ended : Status) (new : World) → Does Promise request old ended new → OfScript request (λ file. RunsScript Promise file old ended new)
 of_script (Script file) old ended new does = does
 of_script (One command) old ended new does = tt
+of_script (Generate rows) old ended new does = tt
+
+pub of_rows : (request : Request) (old : World) (ended : Status) (new : World) → Does Promise request old ended new → OfRows request (λ rows. Generates Promise rows old ended new)
+of_rows (Script file) old ended new does = tt
+of_rows (One command) old ended new does = tt
+of_rows (Generate rows) old ended new does = does
 
 -- ---- the opening
 

@@ -1,8 +1,11 @@
 -- What each command of a script does leads to what all of them do.
 use Rattle.std.proofs.Common.{◌≡◌, ◌⊎◌, inl, inr, ℕ, List, [], ◌∷◌, Option, Some, refl, ap}
-use Rattle.command_words.specs.Command.{Command, One, Open, Request, Script}
+use Rattle.command_words.specs.Command.{Command, Generate, One, Open, Request, Script}
 use Rattle.command_words.specs.declared.status.Status.{Status}
+use Rattle.command_model.specs.Generated.{generate_commands}
 use Rattle.command_model.specs.World.{Devices, Stage, World, beside}
+use Rattle.pinot_run.specs.Generate.{Generates, RunsThrough, Tells, aside}
+use Rattle.command_words.specs.declared.status.Status.TheVariants as status
 use Rattle.pinot_run.specs.Script.{Does, EndsAt, FollowsOn, GoesOn, IsMarkCut, IsMarked, RunsLines, RunsScript}
 use Rattle.pinot_run.specs.Text.{line_command, lines_of}
 
@@ -65,6 +68,42 @@ module _ {K : Type 0} (P : Option Command → World → Status → World → Typ
             (next, record { said = s.said; opened = beside mid s.opened; opens = opens; follows = inr (done, text, text_is, lines) }, then)
       ]
 
+  -- commands one after another, each with streams of its own
+  pub through_lift : (commands : List (Option Command)) (old : Devices) (u : Unit {0}) (k : K) (said : Status) (texts : List (List ℕ)) (line : List ℕ) (new : Devices) (v : Unit {0}) → I (aside old u [] []) k → RunsThrough P commands old u said texts line new v
+      → (next : K) × RunsThrough Q commands old k said texts line new next × I (aside new v [] []) next
+  through_lift [] old u k said texts line new v i (done, none, silent, same, left) = (k, (done, none, silent, same, refl), still (aside old u [] []) (aside new v [] []) k same i)
+  through_lift (command ∷ commands) old u k said texts line new v i (inl (other, none, does)) =
+      let (next, q, then) = one command (aside old u [] []) k said (aside new v [] line) i does in
+      (next, inl (other, none, q), still (aside new v [] line) (aside new v [] []) next refl then)
+  through_lift (command ∷ commands) old u k said texts line new v i (inr (text, mid, between, more, does, rest, is)) =
+      let (here, q, there) = one command (aside old u [] []) k status.Done (aside mid between text []) i does in
+      let (next, runs, then) = through_lift commands mid between here said more line new v (still (aside mid between text []) (aside mid between [] []) here refl there) rest in
+      (next, inr (text, mid, here, more, q, runs, is), then)
+
+  tells_beside : (said : Status) (text line : List ℕ) (old : World) (ended : Status) (new : World) (k next : K) → Tells said text line old ended new → Tells said text line (beside k old) ended (beside next new)
+  tells_beside said text line old ended new k next (inl (fine, same, p)) = inl (fine, same, record { out = p.out; notes = p.notes })
+  tells_beside said text line old ended new k next (inr (inl (fine, same, p))) = inr (inl (fine, same, record { failed = p.failed; prefix = p.prefix }))
+  tells_beside said text line old ended new k next (inr (inr (inl t))) = inr (inr (inl t))
+  tells_beside said text line old ended new k next (inr (inr (inr t))) = inr (inr (inr t))
+
+  generates_lift : (rows : ℕ) (old : World) (k : K) (ended : Status) (new : World) → I old k → Generates P rows old ended new → (next : K) × Generates Q rows (beside k old) ended (beside next new) × I new next
+  generates_lift rows old k ended new i g =
+      let (next, runs, then) = through_lift (generate_commands rows) old.devices old.kept k g.said g.texts g.line new.devices new.kept (still old (aside old.devices old.kept [] []) k refl i) g.runs in (
+        next,
+        record {
+          said = g.said;
+          texts = g.texts;
+          line = g.line;
+          runs = runs;
+          tells = tells_beside g.said _ g.line old ended new k next g.tells;
+          noted = g.noted;
+          counted = g.counted;
+          later = g.later;
+        },
+        still (aside new.devices new.kept [] []) new next refl then,
+      )
+
   pub does_lift : (request : Request) (old : World) (k : K) (ended : Status) (new : World) → I old k → Does P request old ended new → (next : K) × Does Q request (beside k old) ended (beside next new) × I new next
   does_lift (Script file) old k ended new i d = script_lift file old k ended new i d
   does_lift (One command) old k ended new i d = one command old k ended new i d
+  does_lift (Generate rows) old k ended new i d = generates_lift rows old k ended new i d

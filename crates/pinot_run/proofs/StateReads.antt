@@ -261,9 +261,9 @@ module _ (stored : Files) (texts : state.Texts) (segments : Segments) (stands : 
       table_state old.devices.depot.log new.devices.depot.log None (is_done ended) (λ name rows entries h. h) (unread old.devices.depot.log new.devices.depot.log (ap (λ s. s.log) p.touched.depot))
   read_so (Some (Scan file sql)) old new ended p told =
       table_state old.devices.depot.log new.devices.depot.log (Some (Scan file sql)) (is_done ended) (λ name rows entries h. h) (unread old.devices.depot.log new.devices.depot.log (ap (λ s. s.log) p.touched.depot))
-  read_so (Some (Create schema settings)) old new ended p told =
-      table_state old.devices.depot.log new.devices.depot.log (Some (Create schema settings)) (is_done ended) (λ name rows entries h. h) (unread old.devices.depot.log new.devices.depot.log p.touched.depot.log)
-  read_so (Some (Build name csv)) old new ended p told = table_state old.devices.depot.log new.devices.depot.log (Some (Build name csv)) (is_done ended) (λ name rows entries h. h) p.touched.depot.log
+  read_so (Some (Create made)) old new ended p told =
+      table_state old.devices.depot.log new.devices.depot.log (Some (Create made)) (is_done ended) (λ name rows entries h. h) (unread old.devices.depot.log new.devices.depot.log p.touched.depot.log)
+  read_so (Some (Build name source)) old new ended p told = table_state old.devices.depot.log new.devices.depot.log (Some (Build name source)) (is_done ended) (λ name rows entries h. h) p.touched.depot.log
   read_so (Some (Attach name file)) old new ended p told = table_state old.devices.depot.log new.devices.depot.log (Some (Attach name file)) (is_done ended) (λ name rows entries h. h) p.touched.depot.log
   read_so (Some (Drop name)) old new ended p told = table_state old.devices.depot.log new.devices.depot.log (Some (Drop name)) (is_done ended) (λ name rows entries h. h) p.touched.depot.log
   read_so (Some (Look aim name)) old new ended p told =

@@ -11,7 +11,7 @@ use Rattle.sql_reply.specs.SqlReply.{sql_reply}
 use Rattle.table_store.specs.Accepted.{IsAccepted}
 use Rattle.table_store.specs.Stands.{Stands, segment_of}
 use Rattle.table_store.specs.State.{HasTable, NoTable, Segment, Segments, State, Texts}
-use Rattle.command_words.specs.Command.{Attach, Build, Command, Drop, call_of}
+use Rattle.command_words.specs.Command.{Attach, Build, Command, Drop, RowSource, call_of}
 use Rattle.command_words.specs.declared.about.About.TheVariants.{Rows, RowsAndPlans}
 use Rattle.command_words.specs.declared.status.Status.{Status}
 use Rattle.command_words.specs.declared.status.Status.TheVariants as status
@@ -35,7 +35,8 @@ use Rattle.pinot_run.specs.Script.{Does}
 --     the stated product of star documents.
 --
 -- from an empty folder: `FromEmpty`
--- after any commands: `Proceeds`, over any list of calls, each one command or a script of them
+-- after any commands: `Proceeds`, over any list of calls, each one command, a script of them, or
+-- `generate`, which is four
 -- each query prints: `LeavesOf`, where the answer of the step is given whole
 -- unless memory runs out or a device fails: `LeavesOf`, its cases of these three statuses
 -- exactly what filtering, grouping and folding would print: `Answers`, over all rows of the state
@@ -140,12 +141,12 @@ Reaches (move ∷ earlier) state = (move.new.kept ≡ state)
     × Moves move.files move.command move.old move.ended move.new
     × Reaches earlier move.old.kept
 
--- a command is a `build` of this name, and these are the rows of its file
+-- a command is a `build` of this name, and these are its rows
 pub record IsBuildOf (command : Option Command) (files : Files) (segments : Segments)
     (table : Table) (name : List ℕ) (rows : List (List Value)) : Type 0 where
-  pub csv : List ℕ
-  pub command_is : command ≡ Some (Build name csv)
-  pub rows_are : new_rows table segments name csv files ≡ Ok rows
+  pub from : RowSource
+  pub command_is : command ≡ Some (Build name from)
+  pub rows_are : new_rows table segments name from files ≡ Ok rows
 
 -- a command is an `attach` of this name, and its file is the image of these rows
 pub record IsAttachOf (command : Option Command) (files : Files) (texts : Texts)
@@ -163,7 +164,8 @@ IsSource command files texts segments table name rows =
     IsBuildOf command files segments table name rows
     ⊎ IsAttachOf command files texts segments table name rows
 
--- a `build` or an `attach` of this name took effect, and these are the rows of its file
+-- a `build` or an `attach` of this name took effect, and these are its rows; the segment of
+-- `generate` is built so
 pub record Ingests (move : Move) (name : List ℕ) (rows : List (List Value)) : Type 0 where
   pub took_effect : move.new.kept ≢ move.old.kept
   pub texts : Texts
@@ -175,7 +177,7 @@ pub record Ingests (move : Move) (name : List ℕ) (rows : List (List Value)) : 
 
 -- whether a command is on the segment of a name: it makes it or drops it
 abbrev pub IsOn : List ℕ → Option Command → Type 0
-IsOn name command = ((csv : List ℕ) × (command ≡ Some (Build name csv)))
+IsOn name command = ((from : RowSource) × (command ≡ Some (Build name from)))
     ⊎ (((file : List ℕ) × (command ≡ Some (Attach name file)))
     ⊎ (command ≡ Some (Drop name)))
 

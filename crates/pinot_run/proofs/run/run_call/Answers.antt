@@ -13,5 +13,5 @@ returns-in-Some g c =
 pub returns-in-None : goal.returns-in-None
 returns-in-None g c =
     let old : World = world g.I.Shelf g.D.Shelf g.O.Sink g.N.Sink c.args.inputs.now c.args.depot.now c.args.out.now c.args.notes.now in
-    let new : World = world g.I.Shelf g.D.Shelf g.O.Sink g.N.Sink c.run.new.inputs c.run.new.depot c.run.new.out c.run.new.notes in
-    subst (λ r. Does Promise r old c.run.result new) (sym c.in-None.ensures) c.run.ensures
+    let new : World = world g.I.Shelf g.D.Shelf g.O.Sink g.N.Sink c.run_one.new.inputs c.run_one.new.depot c.run_one.new.out c.run_one.new.notes in
+    subst (λ r. Does Promise r old c.run_one.result new) (sym c.in-None.ensures) c.run_one.ensures
