@@ -2,6 +2,8 @@
 #![tactic(auto)]
 
 mod field;
+mod laws;
 mod rows;
 
+pub use laws::reads_back_law;
 pub use rows::{names_text, push_rows};
