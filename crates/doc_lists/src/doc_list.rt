@@ -46,6 +46,15 @@ impl DocList {
         Ok(DocList { runs, count: 0 })
     }
 
+    /// The documents of runs.
+    pub(crate) fn from_runs(runs: Vec<Run>) -> DocList
+        requires { Apart 0 runs.items }
+        ensures { result ≡ docs_of runs.items }
+    {
+        let count = count_of(runs.as_slice());
+        DocList { runs, count }
+    }
+
     /// The documents from one up to another, which is left out.
     pub fn from_range(alloc: Global, start: u32, end: u32) -> Result<DocList, NoMemory>
         requires { start ≤ end }

@@ -4,6 +4,7 @@ ghost use Rattle.doc_lists.specs.Docs.{Apart, has_doc, next_from};
 ghost use Rattle.doc_lists.specs.Sets.{RemainFrom, AreThose, IsSooner, SameFrom, Swept, SweepsRuns, ends_before, first_in, in_runs};
 
 use crate::doc_list::next_after;
+use crate::marking::{is_dense, meet_marked};
 use crate::{DocList, NoMemory, Run};
 use std::alloc::Global;
 
@@ -12,6 +13,18 @@ const MANY: usize = 8;
 
 /// The documents that are in both lists.
 pub fn meet(alloc: Global, a: &DocList, b: &DocList) -> Result<DocList, NoMemory>
+    ensures { IfOk result (AreThose (λ doc. has_doc a.now doc && has_doc b.now doc)) }
+{
+    let ours = a.runs();
+    let theirs = b.runs();
+    if is_dense(ours, a.len()) && is_dense(theirs, b.len()) {
+        return meet_marked(alloc, ours, theirs);
+    }
+    meet_runs(alloc, a, b)
+}
+
+// The same, run by run.
+fn meet_runs(alloc: Global, a: &DocList, b: &DocList) -> Result<DocList, NoMemory>
     ensures { IfOk result (AreThose (λ doc. has_doc a.now doc && has_doc b.now doc)) }
 {
     let mut docs = DocList::new(alloc);
