@@ -42,6 +42,58 @@ const SPELLED: &[Spelled] = &[
             b'U', b'S', 0xc3, 0xa9,
         ],
     ),
+    // Fifteen, sixteen and seventeen bytes, one the start of another, a zero byte after one.
+    (
+        FieldKind::Text,
+        &[
+            "aaaaaaaaaaaaaaaab",
+            "aaaaaaaaaaaaaaaa",
+            "aaaaaaaaaaaaaaaac",
+            "aaaaaaaaaaaaaaa",
+            "aaaaaaaaaaaaaaaa\0",
+        ],
+        &[
+            0, 0, 0, 5, 0, 0, 0, 0, 0, 0, 0, 15, 0, 0, 0, 31, 0, 0, 0, 48, 0, 0, 0, 65, 0, 0, 0,
+            82, b'a', b'a', b'a', b'a', b'a', b'a', b'a', b'a', b'a', b'a', b'a', b'a', b'a', b'a',
+            b'a', b'a', b'a', b'a', b'a', b'a', b'a', b'a', b'a', b'a', b'a', b'a', b'a', b'a',
+            b'a', b'a', b'a', b'a', b'a', b'a', b'a', b'a', b'a', b'a', b'a', b'a', b'a', b'a',
+            b'a', b'a', b'a', b'a', b'a', 0, b'a', b'a', b'a', b'a', b'a', b'a', b'a', b'a', b'a',
+            b'a', b'a', b'a', b'a', b'a', b'a', b'a', b'b', b'a', b'a', b'a', b'a', b'a', b'a',
+            b'a', b'a', b'a', b'a', b'a', b'a', b'a', b'a', b'a', b'a', b'c',
+        ],
+    ),
+    // Long common beginnings.
+    (
+        FieldKind::Text,
+        &[
+            "/srv/data/warehouse/region-02/x",
+            "/srv/data/warehouse/region-01/y",
+            "/srv/data/warehouse/region-01/x",
+            "/srv/data/warehouse/region-0",
+            "/srv/data/warehouse/region-01/y/zzzzzzzzzzzzzzzzzzzz2",
+            "/srv/data/warehouse/region-01/y/zzzzzzzzzzzzzzzzzzzz1",
+        ],
+        &[
+            0, 0, 0, 6, 0, 0, 0, 0, 0, 0, 0, 28, 0, 0, 0, 59, 0, 0, 0, 90, 0, 0, 0, 143, 0, 0, 0,
+            196, 0, 0, 0, 227, b'/', b's', b'r', b'v', b'/', b'd', b'a', b't', b'a', b'/', b'w',
+            b'a', b'r', b'e', b'h', b'o', b'u', b's', b'e', b'/', b'r', b'e', b'g', b'i', b'o',
+            b'n', b'-', b'0', b'/', b's', b'r', b'v', b'/', b'd', b'a', b't', b'a', b'/', b'w',
+            b'a', b'r', b'e', b'h', b'o', b'u', b's', b'e', b'/', b'r', b'e', b'g', b'i', b'o',
+            b'n', b'-', b'0', b'1', b'/', b'x', b'/', b's', b'r', b'v', b'/', b'd', b'a', b't',
+            b'a', b'/', b'w', b'a', b'r', b'e', b'h', b'o', b'u', b's', b'e', b'/', b'r', b'e',
+            b'g', b'i', b'o', b'n', b'-', b'0', b'1', b'/', b'y', b'/', b's', b'r', b'v', b'/',
+            b'd', b'a', b't', b'a', b'/', b'w', b'a', b'r', b'e', b'h', b'o', b'u', b's', b'e',
+            b'/', b'r', b'e', b'g', b'i', b'o', b'n', b'-', b'0', b'1', b'/', b'y', b'/', b'z',
+            b'z', b'z', b'z', b'z', b'z', b'z', b'z', b'z', b'z', b'z', b'z', b'z', b'z', b'z',
+            b'z', b'z', b'z', b'z', b'z', b'1', b'/', b's', b'r', b'v', b'/', b'd', b'a', b't',
+            b'a', b'/', b'w', b'a', b'r', b'e', b'h', b'o', b'u', b's', b'e', b'/', b'r', b'e',
+            b'g', b'i', b'o', b'n', b'-', b'0', b'1', b'/', b'y', b'/', b'z', b'z', b'z', b'z',
+            b'z', b'z', b'z', b'z', b'z', b'z', b'z', b'z', b'z', b'z', b'z', b'z', b'z', b'z',
+            b'z', b'z', b'2', b'/', b's', b'r', b'v', b'/', b'd', b'a', b't', b'a', b'/', b'w',
+            b'a', b'r', b'e', b'h', b'o', b'u', b's', b'e', b'/', b'r', b'e', b'g', b'i', b'o',
+            b'n', b'-', b'0', b'2', b'/', b'x',
+        ],
+    ),
 ];
 
 // Bytes that spell no dictionary of the kind.
