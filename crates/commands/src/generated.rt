@@ -55,11 +55,23 @@ fn columns_of(alloc: Global, rows: u32) -> Result<Columns, AllocError>
         c: Column::numbers(alloc),
         m: Column::numbers(alloc),
     };
+    make_room(rows as usize, &mut made)?;
     'each: for row in 0..rows {
         push_row(row, &mut made)?;
     }
     let columns = list_of(alloc, made)?;
     Ok(Columns::new(columns, rows as usize))
+}
+
+// Makes room for so many rows.
+fn make_room(rows: usize, made: &mut Generated) -> Result<(), AllocError>
+    ensures { made.new ≡ made.old }
+{
+    made.a.reserve(rows)?;
+    made.b.reserve(rows)?;
+    made.c.reserve(rows)?;
+    made.m.reserve(rows)?;
+    Ok(())
 }
 
 // The columns in a list.

@@ -6,7 +6,7 @@ use Rattle.std.specs.Str.{bytes_eq}
 use Rattle.std.proofs.lemmas.List.Elements.{All-head, All-tail}
 use Rattle.std.proofs.lemmas.List.Sums.{sum_by-cons}
 use Rattle.std.specs.FinMap as map
-use Rattle.std.specs.Prelude.{not, sum_by}
+use Rattle.std.specs.Prelude.{codes, not, sum_by}
 use Rattle.outside.specs.Files.{Files}
 use Rattle.outside.specs.Reads.{Entry}
 use Rattle.outside.proofs.ReadLemmas.{read_in-append}
@@ -28,18 +28,20 @@ use Rattle.segment_reads.proofs.LogLemmas.{same_log}
 use Rattle.table_store.specs.Accepted.{IsAccepted}
 use Rattle.table_store.specs.Stands.{segment_of}
 use Rattle.table_store.specs.State.{HasTable, Segment, Segments, State, Texts}
-use Rattle.command_words.specs.Command.{Ask, Attach, Build, Command, Create, Drop, Listing, Look, Open, Scan as ScanFile}
+use Rattle.command_words.specs.Command.{Ask, Attach, Build, Command, Create, Drop, GeneratedTexts, Listing, Look, Open, Scan as ScanFile, command_of, number_of, rows_asked, unless_rows}
 use Rattle.command_words.specs.Notes.{is_fault}
 use Rattle.command_words.specs.declared.aim.Aim.{Aim}
 use Rattle.command_words.specs.declared.about.About.TheVariants.{Plans, Rows, RowsAndPlans}
 use Rattle.command_words.specs.declared.status.Status.{Status}
 use Rattle.command_words.specs.declared.status.Status.TheVariants as status
+use Rattle.command_model.specs.Step.{HasStep}
 use Rattle.command_model.specs.World.{Devices, Stage}
-use Rattle.pinot_run.specs.Headline.{Moves, ReadsOf}
+use Rattle.pinot_run.specs.Generate.{Generates, aside}
+use Rattle.pinot_run.specs.Headline.{LeavesOf, Moves, ReadsOf}
 use Rattle.pinot_run.specs.Laws.{ReadsFor, ReadsSegment, ReadsState, is_done}
-use Rattle.pinot_run.specs.Script.{EndsAt, GoesOn, RunsLines}
+use Rattle.pinot_run.specs.Script.{DoesOne, EndsAt, GoesOn, RunsLines}
 use Rattle.pinot_run.specs.ScriptReads.{Finishes, LinesRead, ReadsAll, ScriptReads, docs_of, goes_by_plan, is_scan, of_text, plan_docs, scans}
-use Rattle.pinot_run.specs.Text.{line_command}
+use Rattle.pinot_run.specs.Text.{line_command, line_request, words_of}
 use Rattle.table_store.proofs.NameLemmas.{is_name}
 use Rattle.pinot_run.proofs.DoneLemmas.{not_done, write_not_done}
 use Rattle.pinot_run.proofs.IngestedLemmas.{Changes, got_other, moves, no_table, none_some, segments_in, texts_in}
@@ -68,9 +70,9 @@ module _ (table : Table) (name : List ℕ) (rows : List (List Value)) where
   Star x n = bytes_read x (live name) (star_span table name rows n)
 
   -- what is read by a plan that is a scan or not, and of a number of documents for each tree
-  record OfPlan (done : Bool) (is : Bool) (docs : ℕ → ℕ) (x : List Entry) : Type 0 where
-    raw : is ≡ false → Raw x ≡ 0
-    stars : (n : ℕ) (setting : TreeSetting) → slice_get table.settings.trees n ≡ Some setting → AreBytes done (Star x n) (docs n * doc_width setting.shape)
+  pub record OfPlan (done : Bool) (is : Bool) (docs : ℕ → ℕ) (x : List Entry) : Type 0 where
+    pub raw : is ≡ false → Raw x ≡ 0
+    pub stars : (n : ℕ) (setting : TreeSetting) → slice_get table.settings.trees n ≡ Some setting → AreBytes done (Star x n) (docs n * doc_width setting.shape)
 
   none_of : (done : Bool) (x : List Entry) → ReadsNone table (live name) rows x → OfPlan done false (λ n. 0) x
   none_of done x r = record { raw = λ is. r.raw; stars = λ n setting got. no_bytes done (Star x n) (doc_width setting.shape) (r.stars n) }
@@ -106,7 +108,7 @@ module _ (table : Table) (name : List ℕ) (rows : List (List Value)) where
       let both : true ≡ false = sym keeps ∙ no in
       absurd cc
 
-  of_line : (command : Option Command) (done : Bool) (x : List Entry) → goes_by_plan name command ≡ true → ReadsSegment command done table name rows x → OfPlan done (scans table rows command) (λ n. docs_of table rows n command) x
+  pub of_line : (command : Option Command) (done : Bool) (x : List Entry) → goes_by_plan name command ≡ true → ReadsSegment command done table name rows x → OfPlan done (scans table rows command) (λ n. docs_of table rows n command) x
   of_line None done x keeps r = none_of done x r
   of_line (Some (ScanFile file sql)) done x keeps r = none_of done x r
   of_line (Some (Create made)) done x keeps r = none_of done x r
@@ -156,6 +158,21 @@ module _ (table : Table) (name : List ℕ) (rows : List (List Value)) where
   last_line true line lines x not plan = absurd (not refl)
   last_line false line lines x not plan = subst (LinesRead table name rows (line ∷ lines) false) (append-nil x) (one_more false line lines x [] plan (unread lines))
 
+-- ---- words that ask for rows to be generated
+
+-- they spell no command
+verb_alone : (verb digits : List ℕ) (test : Bool) → bytes_eq verb (codes "generate") ≡ test → (rows : ℕ) → cond test (number_of digits) None ≡ Some rows → command_of (verb ∷ digits ∷ []) ≡ None
+verb_alone verb digits true is rows asked =
+    let own : verb ≡ codes "generate" = (bytes_eq-Decides verb (codes "generate")).0 is in
+    subst (λ v. command_of (v ∷ digits ∷ []) ≡ None) (sym own) refl
+verb_alone verb digits false is rows asked = absurd cc
+
+spells_none : (words : List (List ℕ)) (rows : ℕ) → rows_asked words ≡ Some rows → command_of words ≡ None
+spells_none [] rows asked = absurd cc
+spells_none (verb ∷ []) rows asked = absurd cc
+spells_none (verb ∷ digits ∷ []) rows asked = verb_alone verb digits (bytes_eq verb (codes "generate")) refl rows asked
+spells_none (verb ∷ digits ∷ other ∷ words) rows asked = absurd cc
+
 -- ---- the segment stays
 
 stays : (files : Files) (texts : Texts) (segments : Segments) (name : List ℕ) (segment : Segment) (command : Option Command) (from to : State) → goes_by_plan name command ≡ true → from ≡ HasTable texts segments → map.get segments name ≡ Some segment → Changes command files from to
@@ -182,21 +199,21 @@ stays files texts segments name segment command from to keeps is got (inr (inr (
 -- ---- the lines of a script
 
 -- a log grew by reads of which this holds, where it is told
-record Grew (P : List Entry → Type 0) (old new : Option (List Entry)) : Type 0 where
-  entries : List Entry
-  made : new ≡ option_map (λ l. l ++ entries) old
-  told : IfSome old (λ before. P entries)
+pub record Grew (P : List Entry → Type 0) (old new : Option (List Entry)) : Type 0 where
+  pub entries : List Entry
+  pub made : new ≡ option_map (λ l. l ++ entries) old
+  pub told : IfSome old (λ before. P entries)
 
-grew_grown : (P : List Entry → Type 0) (old new : Option (List Entry)) → Grew P old new → Grown P old new
+pub grew_grown : (P : List Entry → Type 0) (old new : Option (List Entry)) → Grew P old new → Grown P old new
 grew_grown P None new g = λ before entries is now. absurd cc
 grew_grown P (Some before) new g = grown_so P (Some before) new g.entries g.made g.told
 
 -- what holds of the entries of a log that grew so
-told_of : (P : List Entry → Type 0) (old new : Option (List Entry)) (x : List Entry) → new ≡ option_map (λ l. l ++ x) old → Grown P old new → IfSome old (λ before. P x)
+pub told_of : (P : List Entry → Type 0) (old new : Option (List Entry)) (x : List Entry) → new ≡ option_map (λ l. l ++ x) old → Grown P old new → IfSome old (λ before. P x)
 told_of P None new x made grown = tt
 told_of P (Some before) new x made grown = grown before x refl made
 
-grew_then : (P Q R : List Entry → Type 0) (a b c : Option (List Entry)) (x : List Entry) → b ≡ option_map (λ l. l ++ x) a → IfSome a (λ before. P x) → Grew Q b c → ((y : List Entry) → P x → Q y → R (x ++ y)) → Grew R a c
+pub grew_then : (P Q R : List Entry → Type 0) (a b c : Option (List Entry)) (x : List Entry) → b ≡ option_map (λ l. l ++ x) a → IfSome a (λ before. P x) → Grew Q b c → ((y : List Entry) → P x → Q y → R (x ++ y)) → Grew R a c
 grew_then P Q R None b c x made first g both = record { entries = x ++ g.entries; made = g.made ∙ ap (option_map (λ l. l ++ g.entries)) made; told = tt }
 grew_then P Q R (Some before) b c x made first g both =
     let later : IfSome (Some (before ++ x)) (λ l. Q g.entries) = subst (λ o. IfSome o (λ l. Q g.entries)) made g.told in
@@ -206,11 +223,11 @@ grew_then P Q R (Some before) b c x made first g both =
       told = both g.entries first later;
     }
 
-told_as : (o : Option (List Entry)) (Q R : Type 0) → (Q → R) → IfSome o (λ before. Q) → IfSome o (λ before. R)
+pub told_as : (o : Option (List Entry)) (Q R : Type 0) → (Q → R) → IfSome o (λ before. Q) → IfSome o (λ before. R)
 told_as None Q R f h = tt
 told_as (Some before) Q R f h = f h
 
-always : {Q : Type 0} (o : Option (List Entry)) → Q → IfSome o (λ before. Q)
+pub always : {Q : Type 0} (o : Option (List Entry)) → Q → IfSome o (λ before. Q)
 always None q = tt
 always (Some before) q = q
 
@@ -221,22 +238,53 @@ module _ (files : Files) (texts : Texts) (table : Table) (accepted : IsAccepted 
   abbrev Here : Segments → Stage State → Type 0
   Here segments stage = (stage.kept ≡ HasTable texts segments) × (map.get segments name ≡ Some segment)
 
-  abbrev Line : List ℕ → List Entry → Type 0
-  Line line x = OfPlan table name segment.rows all_done (scans table segment.rows (line_command line)) (λ n. docs_of table segment.rows n (line_command line)) x
+  abbrev Own : Option Command → List Entry → Type 0
+  Own command x = OfPlan table name segment.rows all_done (scans table segment.rows command) (λ n. docs_of table segment.rows n command) x
 
-  -- a line that did P
-  one_line : (line : List ℕ) (segments : Segments) (old : Stage State) (said : Status) (new : Stage State) → Here segments old → goes_by_plan name (line_command line) ≡ true → P (line_command line) old said new
-      → (x : List Entry) × (new.devices.depot.log ≡ option_map (λ l. l ++ x) old.devices.depot.log) × IfSome old.devices.depot.log (λ before. Line line x)
-  one_line line segments old said new (is, got) keeps p =
-      let m = to (line_command line) old said new p in
-      let reads : ReadsState (line_command line) (is_done said) table segments old.devices.depot.log new.devices.depot.log =
-      subst (λ s. ReadsOf s (line_command line) said old.devices new.devices) is m.reads table accepted in
+  abbrev Line : List ℕ → List Entry → Type 0
+  Line line x = Own (line_command line) x
+
+  -- what a command reads, and the segment after it
+  abbrev Read : Option Command → Stage State → Stage State → Type 0
+  Read command old new = (x : List Entry) × (new.devices.depot.log ≡ option_map (λ l. l ++ x) old.devices.depot.log) × IfSome old.devices.depot.log (λ before. Own command x)
+      × (left : Segments) × Here left new
+
+  -- a command that did P
+  one_command : (command : Option Command) (segments : Segments) (old : Stage State) (said : Status) (new : Stage State) → Here segments old → goes_by_plan name command ≡ true → P command old said new → Read command old new
+  one_command command segments old said new (is, got) keeps p =
+      let m = to command old said new p in
+      let reads : ReadsState command (is_done said) table segments old.devices.depot.log new.devices.depot.log = subst (λ s. ReadsOf s command said old.devices new.devices) is m.reads table accepted in
       let (x, made, among) = reads.files in
-      let own = told_of (ReadsSegment (line_command line) (is_done said) table name segment.rows) old.devices.depot.log new.devices.depot.log x made (reads.each name segment got) in
-      let by : ReadsSegment (line_command line) (is_done said) table name segment.rows x → Line line x = λ r.
-      let plan = of_line table name segment.rows (line_command line) (is_done said) x keeps r in
-      record { raw = plan.raw; stars = λ n setting there. weak (line_command line) old said new p _ _ (plan.stars n setting there) } in
-      (x, made, told_as old.devices.depot.log (ReadsSegment (line_command line) (is_done said) table name segment.rows x) (Line line x) by own)
+      let own = told_of (ReadsSegment command (is_done said) table name segment.rows) old.devices.depot.log new.devices.depot.log x made (reads.each name segment got) in
+      let by : ReadsSegment command (is_done said) table name segment.rows x → Own command x = λ r.
+      let plan = of_line table name segment.rows command (is_done said) x keeps r in
+      record { raw = plan.raw; stars = λ n setting there. weak command old said new p _ _ (plan.stars n setting there) } in
+      let (left, then, there) = stays files texts segments name segment command old.kept new.kept keeps is got (moves files command old said new m) in
+      (x, made, told_as old.devices.depot.log (ReadsSegment command (is_done said) table name segment.rows x) (Own command x) by own, left, (then, there))
+
+  -- the first command of rows that are generated, which makes their table: where there is one it is not done
+  first_not_done : (rows : ℕ) (segments : Segments) (old new : Stage State) → Here segments old → ¬ P (Some (Create (GeneratedTexts rows))) old status.Done new
+  first_not_done rows segments old new (is, got) p =
+      let m = to (Some (Create (GeneratedTexts rows))) old status.Done new p in
+      let given = (subst (λ s. LeavesOf (HasStep s (Some (Create (GeneratedTexts rows))) files) old status.Done new) is m.leaves).2.0 in
+      let same : status.Done ≡ status.TableExists = given.ended_so in
+      absurd cc
+
+  -- so it is the last, and reads no segment
+  generates_read : (rows : ℕ) (segments : Segments) (old : Stage State) (said : Status) (new : Stage State) → Here segments old → Generates P rows old said new → Read None old new
+  generates_read rows segments old said new here g = elim g.runs [
+    | inl (other, none, does) ↦ one_command (Some (Create (GeneratedTexts rows))) segments (aside old.devices old.kept [] []) g.said (aside new.devices new.kept [] g.line) here refl does
+    | inr (text, mid, between, more, does, rest, is) ↦ absurd (first_not_done rows segments (aside old.devices old.kept [] []) (aside mid between text []) here does)
+  ]
+
+  -- a line that did what it asks for
+  by_asked : (asked : Option ℕ) (words : List (List ℕ)) → rows_asked words ≡ asked → (segments : Segments) (old : Stage State) (said : Status) (new : Stage State) → Here segments old → goes_by_plan name (command_of words) ≡ true
+      → DoesOne P (unless_rows asked (command_of words)) old said new → Read (command_of words) old new
+  by_asked None words is segments old said new here keeps does = one_command (command_of words) segments old said new here keeps does
+  by_asked (Some rows) words is segments old said new here keeps does = subst (λ command. Read command old new) (sym (spells_none words rows is)) (generates_read rows segments old said new here does)
+
+  one_line : (line : List ℕ) (segments : Segments) (old : Stage State) (said : Status) (new : Stage State) → Here segments old → goes_by_plan name (line_command line) ≡ true → DoesOne P (line_request line) old said new → Read (line_command line) old new
+  one_line line segments old said new here keeps does = by_asked (rows_asked (words_of line)) (words_of line) refl segments old said new here keeps does
 
   -- a script that ends at a line is not all done
   ends_not : (line : List ℕ) (old : Stage State) (ended : Status) (new : Stage State) → EndsAt P line old ended new → ended ≢ status.Done
@@ -259,18 +307,16 @@ module _ (files : Files) (texts : Texts) (table : Table) (accepted : IsAccepted 
     told = always old.devices.depot.log (no_lines table name segment.rows all_done);
   }
   lines_read (line ∷ lines) segments old ended new here keeps ends (inl e) =
-      let (x, made, told) = one_line line segments old e.said e.between here (All-head (λ l. goes_by_plan name (line_command l) ≡ true) line lines keeps) e.does in
+      let (x, made, told, left, after) = one_line line segments old e.said e.between here (All-head (λ l. goes_by_plan name (line_command l) ≡ true) line lines keeps) e.does in
       record {
         entries = x;
         made = end_log line old ended new e ∙ made;
         told = told_as old.devices.depot.log (Line line x) (LinesRead table name segment.rows (line ∷ lines) all_done x) (last_line table name segment.rows all_done line lines x (λ flag. ends_not line old ended new e (ends flag))) told;
       }
   lines_read (line ∷ lines) segments old ended new here keeps ends (inr (next, goes, rest)) =
-      let (x, made, told) = one_line line segments old goes.said goes.between here (All-head (λ l. goes_by_plan name (line_command l) ≡ true) line lines keeps) goes.does in
+      let (x, made, told, left, after) = one_line line segments old goes.said goes.between here (All-head (λ l. goes_by_plan name (line_command l) ≡ true) line lines keeps) goes.does in
       let grown : next.devices.depot.log ≡ option_map (λ l. l ++ x) old.devices.depot.log = ap (λ (d : Devices). d.depot.log) goes.marked.devices ∙ made in
-      let (left, is, got) = stays files texts segments name segment (line_command line) old.kept goes.between.kept (All-head (λ l. goes_by_plan name (line_command l) ≡ true) line lines keeps) here.0 here.1
-      (moves files (line_command line) old goes.said goes.between (to (line_command line) old goes.said goes.between goes.does)) in
-      let more = lines_read lines left next ended new (goes.marked.kept ∙ is, got) (All-tail (λ l. goes_by_plan name (line_command l) ≡ true) line lines keeps) ends rest in
+      let more = lines_read lines left next ended new (goes.marked.kept ∙ after.0, after.1) (All-tail (λ l. goes_by_plan name (line_command l) ≡ true) line lines keeps) ends rest in
       grew_then (Line line) (LinesRead table name segment.rows lines all_done) (LinesRead table name segment.rows (line ∷ lines) all_done) old.devices.depot.log next.devices.depot.log new.devices.depot.log x grown told more
       (λ y. one_more table name segment.rows all_done line lines x y)
 

@@ -6,7 +6,7 @@ use Rattle.outside.specs.Files.{Files, OfFile}
 use Rattle.outside.specs.Sink.{appended}
 use Rattle.table_store.specs.Stands.{Stands}
 use Rattle.table_store.specs.State.{State}
-use Rattle.command_words.specs.Command.{Command, Open}
+use Rattle.command_words.specs.Command.{Generate, One, Open, Request, Script}
 use Rattle.command_words.specs.Notes.{is_fault}
 use Rattle.command_words.specs.declared.status.Status.{Status}
 use Rattle.command_words.specs.declared.status.Status.TheVariants as status
@@ -14,35 +14,17 @@ use Rattle.command_words.specs.declared.note.Counted.TheVariants as counted
 use Rattle.command_words.specs.declared.note.Note.TheVariants as note
 use Rattle.command_model.specs.Profile.{script_limit}
 use Rattle.command_model.specs.Step.{After, HasStep, Refuses, opened, script_answer, status_after, step_of, text_of}
+use Rattle.command_model.specs.Through.{generate_step}
 use Rattle.command_model.specs.World.{Stage, World, beside}
 use Rattle.pinot_run.specs.Headline.{LeavesOf, Moves}
 use Rattle.pinot_run.specs.Promise.{IsGiven, Promise}
-use Rattle.pinot_run.specs.Script.{EndsAt, GoesOn, RunsLines, RunsScript, mark_of}
-use Rattle.pinot_run.specs.ScriptLaws.{DonePrints, Prints, PrintsAll}
-use Rattle.pinot_run.specs.Text.{line_command, lines_of}
-use Rattle.pinot_run.proofs.HeadlineLemmas.{StandsIn, moves_on, stands_still}
+use Rattle.pinot_run.specs.Script.{DoesOne, EndsAt, GoesOn, RunsLines, RunsScript, mark_of}
+use Rattle.pinot_run.specs.ScriptLaws.{DonePrints, IsStepOf, Prints, PrintsAll}
+use Rattle.pinot_run.specs.Text.{line_request, lines_of}
+use Rattle.pinot_run.proofs.GenerateSteps.{generates_given}
+use Rattle.pinot_run.proofs.HeadlineLemmas.{StandsIn, given_of, moves_on, stands_still}
 use Rattle.pinot_run.proofs.PromiseLemmas.{nothing_more}
 use Rattle.pinot_run.proofs.ScriptLifts.{script_lift}
-
--- a command that ended without a fault gave all of its step
-pub given_of : (Has : (After → Type 0) → Type 0) (old : Stage State) (ended : Status) (new : Stage State) → is_fault ended ≡ false → LeavesOf Has old ended new → Has (λ after. IsGiven after.answer ended old new × (new.kept ≡ after.state))
-given_of Has old status.ReadFault new fine l = absurd cc
-given_of Has old status.WriteFault new fine l = absurd cc
-given_of Has old status.NoMemory new fine l = absurd cc
-given_of Has old status.Done new fine l = l
-given_of Has old status.BadWords new fine l = l
-given_of Has old status.NoInput new fine l = l
-given_of Has old status.BadSchema new fine l = l
-given_of Has old status.BadSettings new fine l = l
-given_of Has old status.TableExists new fine l = l
-given_of Has old status.NoTable new fine l = l
-given_of Has old status.BadCsv new fine l = l
-given_of Has old status.TooLarge new fine l = l
-given_of Has old status.NameTaken new fine l = l
-given_of Has old status.NoSegment new fine l = l
-given_of Has old status.BadQuery new fine l = l
-given_of Has old status.NotASegment new fine l = l
-given_of Has old status.TooManyGroups new fine l = l
 
 -- texts given one after another
 both_given : (first more : List ℕ) (told : Option (List ℕ)) → appended more (appended first told) ≡ appended (first ++ more) told
@@ -65,22 +47,31 @@ no_last files line old new e = elim e.stops [
   | inr (fine, same, cut) ↦ write_not_done (sym same)
 ]
 
+-- what a line that ended without a fault gave and left is that of a step
+line_given : (files : Files) (request : Request) (old : Stage State) (said : Status) (between : Stage State) → is_fault said ≡ false → DoesOne (Moves files) request old said between
+    → (after : After) × IsStepOf old.kept request files after × IsGiven after.answer said old between × (between.kept ≡ after.state)
+line_given files (Script file) old said between fine d = absurd d
+line_given files (One command) old said between fine m =
+    let h = given_of (HasStep old.kept command files) old said between fine m.leaves in
+    (step_of old.kept command files h.0, (h.0, h.1, refl), h.2.0, h.2.1)
+line_given files (Generate rows) old said between fine g =
+    let (given, left) = generates_given files rows old said between fine g in
+    (generate_step old.kept rows files, refl, given, left)
+
 -- the lines print, and leave the state of their steps
 pub lines_print : (files : Files) (lines : List (List ℕ)) (old new : Stage State) → RunsLines (Moves files) lines old status.Done new
     → (text : List ℕ) × Prints files old.kept lines text new.kept × (new.out.written ≡ appended text old.out.written)
 lines_print files [] old new (done, same) = ([], (refl, ap (λ (s : Stage State). s.kept) same), ap (λ (s : Stage State). s.out.written) same ∙ nothing_more old.out.written)
 lines_print files (line ∷ lines) old new (inl last) = absurd (no_last files line old new last)
 lines_print files (line ∷ lines) old new (inr (next, goes, rest)) =
-    let h = given_of (HasStep old.kept (line_command line) files) old goes.said goes.between goes.fine goes.does.leaves in
-    let after : After = step_of old.kept (line_command line) files h.0 in
-    let given : IsGiven after.answer goes.said old goes.between = h.2.0 in
-    let state : next.kept ≡ after.state = goes.marked.kept ∙ h.2.1 in
+    let (after, is, given, left) = line_given files (line_request line) old goes.said goes.between goes.fine goes.does in
+    let state : next.kept ≡ after.state = goes.marked.kept ∙ left in
     let (more, prints, out_more) = lines_print files lines next new rest in
     let mark : mark_of goes.said ≡ mark_of (status_after after.answer) = ap mark_of given.ended_so in
     let out : next.out.written ≡ appended (text_of after.answer ++ mark_of (status_after after.answer)) old.out.written =
     goes.marked.out ∙ (λ i. appended (mark i) (given.out i)) ∙ both_given (text_of after.answer) (mark_of (status_after after.answer)) old.out.written in (
       text_of after.answer ++ (mark_of (status_after after.answer) ++ more),
-      (h.0, h.1, (more, refl, subst (λ s. Prints files s lines more new.kept) state prints)),
+      (after, is, more, refl, subst (λ s. Prints files s lines more new.kept) state prints),
       out_more ∙ ap (appended more) out ∙ both_given (text_of after.answer ++ mark_of (status_after after.answer)) more old.out.written
           ∙ ap (λ t. appended t old.out.written) (append_assoc (text_of after.answer) (mark_of (status_after after.answer)) more),
     )

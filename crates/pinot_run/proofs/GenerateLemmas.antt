@@ -4,7 +4,7 @@ use Rattle.std.proofs.lemmas.List.{take_all}
 use Rattle.outside.specs.Counts.{Rose}
 use Rattle.outside.specs.Seen.{Heard}
 use Rattle.outside.specs.Sink.{appended, AppendsPrefix}
-use Rattle.command_words.specs.Command.{Command}
+use Rattle.command_words.specs.Command.{Command, Create, GeneratedTexts, unless_rows}
 use Rattle.command_words.specs.Notes.{fault_line, is_fault, note_text, status_of, status_of_fault}
 use Rattle.command_words.specs.declared.fault.Fault.{Fault}
 use Rattle.command_words.specs.declared.fault.Fault.TheVariants as fault
@@ -21,6 +21,7 @@ use Rattle.command_model.specs.Through.{EndsAs, RanGenerate, RanThrough}
 use Rattle.command_model.specs.World.{Devices, World}
 use Rattle.pinot_run.specs.Generate.{Generates, IsPartPrinted, IsPrinted, RunsThrough, Tells, after, aside, line_after, told}
 use Rattle.pinot_run.specs.Promise.{Noted, Promise}
+use Rattle.pinot_run.specs.Script.{DoesOne}
 use Rattle.pinot_run.proofs.PromiseLemmas.{GaveNote, GaveText, fault_promise, faults_are, line_promise, nothing_more, text_promise, unnoted}
 use Rattle.pinot_run.proofs.ScriptLemmas.{fault_not_done, line_not_done}
 
@@ -236,3 +237,16 @@ told_fault rows old new why notes ran noted = elim (own ran.why ran.ends) [
     own None (inl is) = absurd cc
     own None (inr is) = let same : why ≡ fault.Memory = cc in inl (refl, same)
     own (Some w) is = let same : w ≡ stop.Fault why = cc in inr (ap Some same)
+
+-- ---- without memory
+
+-- nothing at all is done of what a line asks for
+pub idle_does : (asked : Option ℕ) (command : Option Command) (old : World) (notes : Heard) → ((command : Option Command) (now : Devices) → Ran command now now (Err (stop.Fault fault.Memory))) → Noted status.NoMemory old.notes notes
+    → DoesOne Promise (unless_rows asked command) old status.NoMemory (after old.devices old.out notes)
+idle_does None command old notes idle noted = fault_promise command old old.devices fault.Memory notes (idle command old.devices) noted
+idle_does (Some rows) command old notes idle noted = told_fault rows old old.devices fault.Memory notes (record {
+  texts = [];
+  why = Some (stop.Fault fault.Memory);
+  ran = inl (stop.Fault fault.Memory, idle (Some (Create (GeneratedTexts rows))) old.devices, refl, refl);
+  ends = refl;
+}) noted

@@ -13,16 +13,15 @@ use Rattle.command_words.specs.declared.status.Status.TheVariants as status
 use Rattle.command_model.specs.Generated.{generate_commands, generated_text}
 use Rattle.command_model.specs.Step.{After, Answer, HasStep, Refuses, Replies, line_of, status_after, step_of, text_of}
 use Rattle.command_model.specs.Through.{Chain, after_answer, chain_after, chain_answer, generate_step, no_finding, through}
-use Rattle.command_model.specs.World.{Devices, World, beside}
+use Rattle.command_model.specs.World.{Devices, Stage, World, beside}
 use Rattle.pinot_run.specs.Generate.{Generates, RunsThrough, Tells, aside, line_after}
 use Rattle.pinot_run.specs.GenerateLaws.{FollowsStep, GenerateSteps}
 use Rattle.pinot_run.specs.Headline.{Moves}
 use Rattle.pinot_run.specs.Promise.{IsGiven, Promise}
-use Rattle.pinot_run.proofs.DoneLemmas.{given_of}
 use Rattle.pinot_run.proofs.GenerateLemmas.{none_after}
-use Rattle.pinot_run.proofs.HeadlineLemmas.{StandsIn, moves_on, stands_still}
+use Rattle.pinot_run.proofs.HeadlineLemmas.{StandsIn, given_of, moves_on, stands_still}
 use Rattle.pinot_run.proofs.ScriptLemmas.{line_not_done}
-use Rattle.pinot_run.proofs.ScriptLifts.{through_lift}
+use Rattle.pinot_run.proofs.ScriptLifts.{generates_lift}
 
 module _ (files : Files) where
   -- none of these commands takes notice of what the check of a file finds
@@ -75,22 +74,27 @@ module _ (files : Files) where
       done_by (step_of kept command files no_finding).answer (step_of kept command files no_finding).state _ old mid kept between text said texts more line left
       (subst (λ (a : After). IsGiven a.answer status.Done (aside old kept [] []) (aside mid between text [])) same h.2.0) chain is
 
-some_and : (o : Option Files) (P : Files → Type 0) (x : Files) → o ≡ Some x → P x → IsSomeAnd o P
+pub some_and : (o : Option Files) (P : Files → Type 0) (x : Files) → o ≡ Some x → P x → IsSomeAnd o P
 some_and o P x is p = subst (λ w. IsSomeAnd w P) (sym is) p
 
+-- the line of a chain
+chain_text : (files : Files) (rows : ℕ) (chain : Chain) (refusal : Option Note) (said : Status) (texts : List (List ℕ)) (line : List ℕ) → texts ≡ chain.texts → EndsSo files refusal said line → line_after rows said texts ≡ text_of (chain_answer rows chain.texts refusal)
+chain_text files rows chain None said texts line are (done, silent) = λ k. line_after rows (done k) (are k)
+chain_text files rows chain (Some refused) said texts line are (is, own) = ap (λ s. line_after rows s texts) is ∙ none_after rows refused texts
+
 -- the line, or the refusal, of a chain
-follows : (files : Files) (rows : ℕ) (chain : Chain) (refusal : Option Note) (said : Status) (texts : List (List ℕ)) (line : List ℕ) (old new : World)
+follows : {K : Type 0} → (files : Files) (rows : ℕ) (chain : Chain) (refusal : Option Note) (said : Status) (texts : List (List ℕ)) (line : List ℕ) (old new : Stage K)
     → texts ≡ chain.texts → EndsSo files refusal said line → new.out.written ≡ appended (line_after rows said texts) old.out.written → new.notes.written ≡ appended line old.notes.written
     → (said ≡ status_after (chain_answer rows chain.texts refusal)) × (new.out.written ≡ appended (text_of (chain_answer rows chain.texts refusal)) old.out.written)
     × (new.notes.written ≡ appended (line_of (chain_answer rows chain.texts refusal)) old.notes.written)
 follows files rows chain None said texts line old new are (done, silent) out notes = (
   done,
-  out ∙ (λ k. appended (line_after rows (done k) (are k)) old.out.written),
+  out ∙ ap (λ t. appended t old.out.written) (chain_text files rows chain None said texts line are (done, silent)),
   notes ∙ ap (λ l. appended l old.notes.written) silent,
 )
 follows files rows chain (Some refused) said texts line old new are (is, own) out notes = (
   is,
-  out ∙ ap (λ s. appended (line_after rows s texts) old.out.written) is ∙ ap (λ t. appended t old.out.written) (none_after rows refused texts),
+  out ∙ ap (λ t. appended t old.out.written) (chain_text files rows chain (Some refused) said texts line are (is, own)),
   notes ∙ ap (λ l. appended l old.notes.written) own,
 )
 
@@ -99,22 +103,46 @@ fault_not_fine ended said fine same fault =
     let both : false ≡ true = sym fine ∙ ap is_fault same ∙ fault in
     absurd cc
 
+-- where no command had a fault they are those of the whole chain
+whole_chain : (files : Files) (rows : ℕ) (old : Stage State) (ended : Status) (new : Stage State) (g : Generates (Moves files) rows old ended new) → is_fault g.said ≡ false → ChainOf files (through old.kept (generate_commands rows) files) g.said g.texts g.line new.kept
+whole_chain files rows old ended new g fine = runs_chain files (generate_commands rows) (generated_check_none files rows) old.devices old.kept g.said g.texts g.line new.devices new.kept fine g.runs
+
+-- the state that commands without a fault leave is that after all steps
+pub run_left : (files : Files) (rows : ℕ) (old : Devices) (kept : State) (said : Status) (texts : List (List ℕ)) (line : List ℕ) (new : Devices) (left : State) → is_fault said ≡ false → RunsThrough (Moves files) (generate_commands rows) old kept said texts line new left → left ≡ (generate_step kept rows files).state
+run_left files rows old kept said texts line new left fine runs = (runs_chain files (generate_commands rows) (generated_check_none files rows) old kept said texts line new left fine runs).left_is
+
+-- so the state that is left is that after all steps, and the line is theirs
+pub whole_left : (files : Files) (rows : ℕ) (old : Stage State) (ended : Status) (new : Stage State) (g : Generates (Moves files) rows old ended new) → is_fault g.said ≡ false → new.kept ≡ (generate_step old.kept rows files).state
+whole_left files rows old ended new g fine = (whole_chain files rows old ended new g fine).left_is
+
+pub line_text : (files : Files) (rows : ℕ) (old : Stage State) (ended : Status) (new : Stage State) (g : Generates (Moves files) rows old ended new) → is_fault g.said ≡ false → line_after rows g.said g.texts ≡ text_of (generate_step old.kept rows files).answer
+line_text files rows old ended new g fine =
+    let chain = whole_chain files rows old ended new g fine in
+    let whole : Chain = through old.kept (generate_commands rows) files in
+    chain_text files rows whole whole.refusal g.said g.texts g.line chain.texts_are chain.ends
+
+-- rows that were generated from a state on, without a fault, have given and left what the steps of the commands say
+pub generates_given : (files : Files) (rows : ℕ) (old : Stage State) (ended : Status) (new : Stage State) → is_fault ended ≡ false → Generates (Moves files) rows old ended new
+    → IsGiven (generate_step old.kept rows files).answer ended old new × (new.kept ≡ (generate_step old.kept rows files).state)
+generates_given files rows old ended new fine g = elim g.tells [
+  | inl (said_fine, same, printed) ↦
+      let chain = whole_chain files rows old ended new g said_fine in
+      let whole : Chain = through old.kept (generate_commands rows) files in
+      let told = follows files rows whole whole.refusal g.said g.texts g.line old new chain.texts_are chain.ends printed.out printed.notes in
+      (record { ended_so = same ∙ told.0; out = told.1; notes = told.2 }, chain.left_is)
+  | inr (inl (said_fine, same, cut)) ↦ absurd (fault_not_fine ended status.WriteFault fine same refl)
+  | inr (inr (inl (said_fine, same, out))) ↦ absurd (fault_not_fine ended status.NoMemory fine same refl)
+  | inr (inr (inr (fault, same, out))) ↦ absurd (fault_not_fine ended g.said fine same fault)
+]
+
 pub generate_steps : GenerateSteps
 generate_steps rows files kept state old new ended inputs stored stands g fine =
-    let i : StandsIn files (aside old.devices tt [] []) state = record { inputs = inputs; kept = kept; stored = stored; stands = stands } in
-    let (next, runs, then) = through_lift Promise (Moves files) (StandsIn files) (moves_on files) (stands_still files) (generate_commands rows) old.devices old.kept state g.said g.texts g.line new.devices new.kept i g.runs in
-    elim g.tells [
-      | inl (said_fine, same, printed) ↦
-          let chain = runs_chain files (generate_commands rows) (generated_check_none files rows) old.devices state g.said g.texts g.line new.devices next said_fine runs in
-          let whole : Chain = through state (generate_commands rows) files in
-          let told = follows files rows whole whole.refusal g.said g.texts g.line old new chain.texts_are chain.ends printed.out printed.notes in
-          record {
-            ended_so = same ∙ told.0;
-            out = told.1;
-            notes = told.2;
-            stands = some_and new.devices.depot.held (λ held. Stands held whole.state) then.kept then.stored (subst (Stands then.kept) chain.left_is then.stands);
-          }
-      | inr (inl (said_fine, same, cut)) ↦ absurd (fault_not_fine ended status.WriteFault fine same refl)
-      | inr (inr (inl (said_fine, same, out))) ↦ absurd (fault_not_fine ended status.NoMemory fine same refl)
-      | inr (inr (inr (fault, same, out))) ↦ absurd (fault_not_fine ended g.said fine same fault)
-    ]
+    let (next, moved, then) = generates_lift Promise (Moves files) (StandsIn files) (moves_on files) (stands_still files) rows old state ended new (record { inputs = inputs; kept = kept; stored = stored; stands = stands }) g in
+    let (given, left) = generates_given files rows (beside state old) ended (beside next new) fine moved in
+    let after : After = generate_step state rows files in
+    record {
+      ended_so = given.ended_so;
+      out = given.out;
+      notes = given.notes;
+      stands = some_and new.devices.depot.held (λ held. Stands held after.state) then.kept then.stored (subst (Stands then.kept) left then.stands);
+    }

@@ -1,5 +1,5 @@
 -- Any calls, one after another, lead on from a state that the store stands for.
-use Rattle.std.proofs.Common.{◌≡◌, ◌⊎◌, ◌∙◌, inl, inr, ℕ, List, [], ◌∷◌, Option, Some, None, IfSome, IsSomeAnd, refl, sym, ap, subst}
+use Rattle.std.proofs.Common.{◌≡◌, ◌⊎◌, ◌∙◌, inl, inr, ℕ, false, List, [], ◌∷◌, Option, Some, None, IfSome, IsSomeAnd, refl, sym, ap, subst}
 use Rattle.std.specs.FinMap as map
 use Rattle.outside.specs.Files.{Files, name_order}
 use Rattle.outside.specs.Seen.{Seen}
@@ -7,12 +7,13 @@ use Rattle.outside.specs.Sink.{AppendsPrefix}
 use Rattle.table_store.specs.Stands.{Stands}
 use Rattle.table_store.specs.State.{HasTable, NoTable, State}
 use Rattle.command_words.specs.Command.{Command, call_of}
+use Rattle.command_words.specs.Notes.{is_fault}
 use Rattle.command_words.specs.declared.status.Status.{Status}
 use Rattle.command_words.specs.declared.status.Status.TheVariants as status
 use Rattle.command_model.specs.Ran.{Acted, IsStepped}
 use Rattle.command_model.specs.Step.{After, Answer, HasStep, step_of, text_of}
 use Rattle.command_model.specs.Profile.{profile}
-use Rattle.command_model.specs.World.{Devices, World, beside}
+use Rattle.command_model.specs.World.{Devices, Stage, World, beside}
 use Rattle.pinot_run.specs.Calls.{AreCalls, Call}
 use Rattle.pinot_run.specs.Headline.{FromEmpty, Headline, LeavesOf, Moves, Proceeds, ReadsOf}
 use Rattle.pinot_run.specs.Promise.{IsAnswered, IsGiven, IsUndone, Leaves, Promise}
@@ -85,6 +86,26 @@ module _ (command : Option Command) (files kept : Files) (state : State) (old ne
   next_stands status.BadQuery l = next_by status.BadQuery l
   next_stands status.NotASegment l = next_by status.NotASegment l
   next_stands status.TooManyGroups l = next_by status.TooManyGroups l
+
+-- a command that ended without a fault gave all of its step
+pub given_of : (Has : (After → Type 0) → Type 0) (old : Stage State) (ended : Status) (new : Stage State) → is_fault ended ≡ false → LeavesOf Has old ended new → Has (λ after. IsGiven after.answer ended old new × (new.kept ≡ after.state))
+given_of Has old status.ReadFault new fine l = absurd cc
+given_of Has old status.WriteFault new fine l = absurd cc
+given_of Has old status.NoMemory new fine l = absurd cc
+given_of Has old status.Done new fine l = l
+given_of Has old status.BadWords new fine l = l
+given_of Has old status.NoInput new fine l = l
+given_of Has old status.BadSchema new fine l = l
+given_of Has old status.BadSettings new fine l = l
+given_of Has old status.TableExists new fine l = l
+given_of Has old status.NoTable new fine l = l
+given_of Has old status.BadCsv new fine l = l
+given_of Has old status.TooLarge new fine l = l
+given_of Has old status.NameTaken new fine l = l
+given_of Has old status.NoSegment new fine l = l
+given_of Has old status.BadQuery new fine l = l
+given_of Has old status.NotASegment new fine l = l
+given_of Has old status.TooManyGroups new fine l = l
 
 reads_of : (kept : Files) (state : State) (command : Option Command) (old : World) (ended : Status) (new : World) → old.devices.depot.held ≡ Some kept → Stands kept state → Promise command old ended new → ReadsOf state command ended old.devices new.devices
 reads_of kept NoTable command old ended new told stands p = tt

@@ -19,8 +19,8 @@ use Rattle.command_words.specs.declared.status.Status.TheVariants as status
 use Rattle.command_model.specs.World.{World}
 use Rattle.pinot_run.specs.Generate.{Generates}
 use Rattle.pinot_run.specs.Promise.{Noted, Promise}
-use Rattle.pinot_run.specs.Script.{Does, EndsAt, GivesMark, GoesOn, OfOne, OfRows, OfScript, RunsLines, RunsScript}
-use Rattle.pinot_run.specs.Text.{has_bytes, line_command}
+use Rattle.pinot_run.specs.Script.{Does, DoesOne, EndsAt, GivesMark, GoesOn, OfOne, OfRows, OfScript, RunsLines, RunsScript}
+use Rattle.pinot_run.specs.Text.{has_bytes, line_request}
 use Rattle.pinot_run.proofs.PromiseLemmas.{GaveText, nothing_more, unnoted}
 
 -- ---- what is asked for
@@ -39,6 +39,12 @@ pub of_rows : (request : Request) (old : World) (ended : Status) (new : World) �
 of_rows (Script file) old ended new does = tt
 of_rows (One command) old ended new does = tt
 of_rows (Generate rows) old ended new does = does
+
+-- what a line may ask for was asked for
+pub does_one : (request : Request) (old : World) (ended : Status) (new : World) → DoesOne Promise request old ended new → Does Promise request old ended new
+does_one (Script file) old ended new does = absurd does
+does_one (One command) old ended new does = does
+does_one (Generate rows) old ended new does = does
 
 -- ---- the opening
 
@@ -83,7 +89,7 @@ fault_not_done fault.Memory e = absurd cc
 -- ---- one line
 
 -- after the mark a line goes on, or it was the last
-pub line_marked : (line : List ℕ) (old between : World) (said : Status) → Promise (line_command line) old said between → is_fault said ≡ false → (result : Result (Unit {0}) Status) (out notes : Heard) → GivesMark said between.out out between.notes notes result
+pub line_marked : (line : List ℕ) (old between : World) (said : Status) → DoesOne Promise (line_request line) old said between → is_fault said ≡ false → (result : Result (Unit {0}) Status) (out notes : Heard) → GivesMark said between.out out between.notes notes result
     → MatchResult result (λ _. GoesOn Promise line old (record { devices = between.devices; out = out; notes = notes; kept = tt }))
     (λ ended. EndsAt Promise line old ended (record { devices = between.devices; out = out; notes = notes; kept = tt }))
 line_marked line old between said does fine (Ok done) out notes (whole, faults, same) =

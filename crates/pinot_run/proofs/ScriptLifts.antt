@@ -6,8 +6,8 @@ use Rattle.command_model.specs.Generated.{generate_commands}
 use Rattle.command_model.specs.World.{Devices, Stage, World, beside}
 use Rattle.pinot_run.specs.Generate.{Generates, RunsThrough, Tells, aside}
 use Rattle.command_words.specs.declared.status.Status.TheVariants as status
-use Rattle.pinot_run.specs.Script.{Does, EndsAt, FollowsOn, GoesOn, IsMarkCut, IsMarked, RunsLines, RunsScript}
-use Rattle.pinot_run.specs.Text.{line_command, lines_of}
+use Rattle.pinot_run.specs.Script.{Does, DoesOne, EndsAt, FollowsOn, GoesOn, IsMarkCut, IsMarked, RunsLines, RunsScript}
+use Rattle.pinot_run.specs.Text.{line_request, lines_of}
 
 -- where what one command does leads from something kept to what is kept then, and no mark changes what holds of it, the lines of a script and a script do
 module _ {K : Type 0} (P : Option Command → World → Status → World → Type 0) (Q : Option Command → Stage K → Status → Stage K → Type 0) (I : World → K → Type 0)
@@ -19,10 +19,51 @@ module _ {K : Type 0} (P : Option Command → World → Status → World → Typ
   marked_beside : (said : Status) (old new : World) (k : K) → IsMarked said old new → IsMarked said (beside k old) (beside k new)
   marked_beside said old new k marked = record { devices = marked.devices; kept = refl; notes = marked.notes; out = marked.out; faults = marked.faults }
 
+  -- commands one after another, each with streams of its own
+  pub through_lift : (commands : List (Option Command)) (old : Devices) (u : Unit {0}) (k : K) (said : Status) (texts : List (List ℕ)) (line : List ℕ) (new : Devices) (v : Unit {0}) → I (aside old u [] []) k → RunsThrough P commands old u said texts line new v
+      → (next : K) × RunsThrough Q commands old k said texts line new next × I (aside new v [] []) next
+  through_lift [] old u k said texts line new v i (done, none, silent, same, left) = (k, (done, none, silent, same, refl), still (aside old u [] []) (aside new v [] []) k same i)
+  through_lift (command ∷ commands) old u k said texts line new v i (inl (other, none, does)) =
+      let (next, q, then) = one command (aside old u [] []) k said (aside new v [] line) i does in
+      (next, inl (other, none, q), still (aside new v [] line) (aside new v [] []) next refl then)
+  through_lift (command ∷ commands) old u k said texts line new v i (inr (text, mid, between, more, does, rest, is)) =
+      let (here, q, there) = one command (aside old u [] []) k status.Done (aside mid between text []) i does in
+      let (next, runs, then) = through_lift commands mid between here said more line new v (still (aside mid between text []) (aside mid between [] []) here refl there) rest in
+      (next, inr (text, mid, here, more, q, runs, is), then)
+
+  tells_beside : (said : Status) (text line : List ℕ) (old : World) (ended : Status) (new : World) (k next : K) → Tells said text line old ended new → Tells said text line (beside k old) ended (beside next new)
+  tells_beside said text line old ended new k next (inl (fine, same, p)) = inl (fine, same, record { out = p.out; notes = p.notes })
+  tells_beside said text line old ended new k next (inr (inl (fine, same, p))) = inr (inl (fine, same, record { failed = p.failed; prefix = p.prefix }))
+  tells_beside said text line old ended new k next (inr (inr (inl t))) = inr (inr (inl t))
+  tells_beside said text line old ended new k next (inr (inr (inr t))) = inr (inr (inr t))
+
+  pub generates_lift : (rows : ℕ) (old : World) (k : K) (ended : Status) (new : World) → I old k → Generates P rows old ended new → (next : K) × Generates Q rows (beside k old) ended (beside next new) × I new next
+  generates_lift rows old k ended new i g =
+      let (next, runs, then) = through_lift (generate_commands rows) old.devices old.kept k g.said g.texts g.line new.devices new.kept (still old (aside old.devices old.kept [] []) k refl i) g.runs in (
+        next,
+        record {
+          said = g.said;
+          texts = g.texts;
+          line = g.line;
+          runs = runs;
+          tells = tells_beside g.said _ g.line old ended new k next g.tells;
+          noted = g.noted;
+          counted = g.counted;
+          later = g.later;
+        },
+        still (aside new.devices new.kept [] []) new next refl then,
+      )
+
+  -- what a line asks for
+  one_lift : (request : Request) (old : World) (k : K) (ended : Status) (new : World) → I old k → DoesOne P request old ended new → (next : K) × DoesOne Q request (beside k old) ended (beside next new) × I new next
+  one_lift (Script file) old k ended new i d = absurd d
+  one_lift (One command) old k ended new i d = one command old k ended new i d
+  one_lift (Generate rows) old k ended new i d = generates_lift rows old k ended new i d
+
   -- the last line
   ends_lift : (line : List ℕ) (old : World) (k : K) (ended : Status) (new : World) → I old k → EndsAt P line old ended new → (next : K) × EndsAt Q line (beside k old) ended (beside next new) × I new next
   ends_lift line old k ended new i e =
-      let (next, does, then) = one (line_command line) old k e.said e.between i e.does in
+      let (next, does, then) = one_lift (line_request line) old k e.said e.between i e.does in
       elim e.stops [
         | inl (fault, same, left) ↦ (
           next,
@@ -42,7 +83,7 @@ module _ {K : Type 0} (P : Option Command → World → Status → World → Typ
       let (next, ends, then) = ends_lift line old k ended new i e in
       (next, inl ends, then)
   lines_lift (line ∷ lines) old k ended new i (inr (mid, goes, rest)) =
-      let (between, does, there) = one (line_command line) old k goes.said goes.between i goes.does in
+      let (between, does, there) = one_lift (line_request line) old k goes.said goes.between i goes.does in
       let here = still goes.between mid between goes.marked.devices there in
       let (next, runs, then) = lines_lift lines mid between ended new here rest in (
         next,
@@ -67,41 +108,6 @@ module _ {K : Type 0} (P : Option Command → World → Status → World → Typ
             let (next, lines, then) = lines_lift (lines_of text) s.opened mid ended new there runs in
             (next, record { said = s.said; opened = beside mid s.opened; opens = opens; follows = inr (done, text, text_is, lines) }, then)
       ]
-
-  -- commands one after another, each with streams of its own
-  pub through_lift : (commands : List (Option Command)) (old : Devices) (u : Unit {0}) (k : K) (said : Status) (texts : List (List ℕ)) (line : List ℕ) (new : Devices) (v : Unit {0}) → I (aside old u [] []) k → RunsThrough P commands old u said texts line new v
-      → (next : K) × RunsThrough Q commands old k said texts line new next × I (aside new v [] []) next
-  through_lift [] old u k said texts line new v i (done, none, silent, same, left) = (k, (done, none, silent, same, refl), still (aside old u [] []) (aside new v [] []) k same i)
-  through_lift (command ∷ commands) old u k said texts line new v i (inl (other, none, does)) =
-      let (next, q, then) = one command (aside old u [] []) k said (aside new v [] line) i does in
-      (next, inl (other, none, q), still (aside new v [] line) (aside new v [] []) next refl then)
-  through_lift (command ∷ commands) old u k said texts line new v i (inr (text, mid, between, more, does, rest, is)) =
-      let (here, q, there) = one command (aside old u [] []) k status.Done (aside mid between text []) i does in
-      let (next, runs, then) = through_lift commands mid between here said more line new v (still (aside mid between text []) (aside mid between [] []) here refl there) rest in
-      (next, inr (text, mid, here, more, q, runs, is), then)
-
-  tells_beside : (said : Status) (text line : List ℕ) (old : World) (ended : Status) (new : World) (k next : K) → Tells said text line old ended new → Tells said text line (beside k old) ended (beside next new)
-  tells_beside said text line old ended new k next (inl (fine, same, p)) = inl (fine, same, record { out = p.out; notes = p.notes })
-  tells_beside said text line old ended new k next (inr (inl (fine, same, p))) = inr (inl (fine, same, record { failed = p.failed; prefix = p.prefix }))
-  tells_beside said text line old ended new k next (inr (inr (inl t))) = inr (inr (inl t))
-  tells_beside said text line old ended new k next (inr (inr (inr t))) = inr (inr (inr t))
-
-  generates_lift : (rows : ℕ) (old : World) (k : K) (ended : Status) (new : World) → I old k → Generates P rows old ended new → (next : K) × Generates Q rows (beside k old) ended (beside next new) × I new next
-  generates_lift rows old k ended new i g =
-      let (next, runs, then) = through_lift (generate_commands rows) old.devices old.kept k g.said g.texts g.line new.devices new.kept (still old (aside old.devices old.kept [] []) k refl i) g.runs in (
-        next,
-        record {
-          said = g.said;
-          texts = g.texts;
-          line = g.line;
-          runs = runs;
-          tells = tells_beside g.said _ g.line old ended new k next g.tells;
-          noted = g.noted;
-          counted = g.counted;
-          later = g.later;
-        },
-        still (aside new.devices new.kept [] []) new next refl then,
-      )
 
   pub does_lift : (request : Request) (old : World) (k : K) (ended : Status) (new : World) → I old k → Does P request old ended new → (next : K) × Does Q request (beside k old) ended (beside next new) × I new next
   does_lift (Script file) old k ended new i d = script_lift file old k ended new i d

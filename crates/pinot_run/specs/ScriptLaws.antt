@@ -5,21 +5,30 @@ use Rattle.outside.specs.Files.{Files}
 use Rattle.outside.specs.Sink.{appended}
 use Rattle.table_store.specs.Stands.{Stands}
 use Rattle.table_store.specs.State.{State}
+use Rattle.command_words.specs.Command.{Generate, One, Request, Script}
 use Rattle.command_words.specs.declared.status.Status.TheVariants as status
-use Rattle.command_model.specs.Step.{HasStep, status_after, text_of}
+use Rattle.command_model.specs.Step.{After, HasStep, status_after, text_of}
+use Rattle.command_model.specs.Through.{generate_step}
 use Rattle.command_model.specs.World.{World}
 use Rattle.pinot_run.specs.Promise.{Promise}
 use Rattle.pinot_run.specs.Script.{RunsScript, mark_of}
-use Rattle.pinot_run.specs.Text.{line_command, lines_of}
+use Rattle.pinot_run.specs.Text.{line_request, lines_of}
+
+-- what is left where this is asked for of a state: by the step of a command, or by those of the
+-- commands that generate rows
+abbrev pub IsStepOf : State → Request → Files → After → Type 0
+IsStepOf state (One command) files after = HasStep state command files (λ step. after ≡ step)
+IsStepOf state (Generate rows) files after = after ≡ generate_step state rows files
+IsStepOf state (Script file) files after = ⊥
 
 -- what lines print from a state on, and the state that they leave: the reply of each by its step,
 -- and its mark, one after another
 abbrev pub Prints : Files → State → List (List ℕ) → List ℕ → State → Type 0
 Prints files state [] text left = (text ≡ []) × (left ≡ state)
-Prints files state (line ∷ lines) text left = HasStep state (line_command line) files (λ after.
-    (more : List ℕ)
+Prints files state (line ∷ lines) text left = (after : After)
+    × IsStepOf state (line_request line) files after × (more : List ℕ)
     × (text ≡ text_of after.answer ++ (mark_of (status_after after.answer) ++ more))
-    × Prints files after.state lines more left)
+    × Prints files after.state lines more left
 
 -- a script that ends well has run every line of its file: it has printed the reply and the mark of
 -- each, in their order, and left the state of their steps, one after another

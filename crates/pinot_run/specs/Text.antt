@@ -2,7 +2,7 @@
 use Rattle.std.specs.Prelude.{ℕ, Bool, List, Option, ◌==◌, filter, length, nat_lt}
 use Rattle.std.specs.List.{slice_split}
 use Rattle.std.specs.Str.Lines.{lines}
-use Rattle.command_words.specs.Command.{Command, command_of}
+use Rattle.command_words.specs.Command.{Command, Request, command_of, request_of}
 
 -- whether a line has any byte
 abbrev pub has_bytes : List ℕ → Bool
@@ -16,6 +16,10 @@ lines_of text = filter has_bytes (lines text)
 abbrev pub words_of : List ℕ → List (List ℕ)
 words_of line = slice_split (λ b. b == 9) line
 
--- the command of a line
+-- what a line asks for
+abbrev pub line_request : List ℕ → Request
+line_request line = request_of (words_of line)
+
+-- the command that a line spells, if it spells one
 abbrev pub line_command : List ℕ → Option Command
 line_command line = command_of (words_of line)

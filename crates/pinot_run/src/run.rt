@@ -5,7 +5,7 @@ ghost use Rattle.command_model.specs.Consulted.{AtMostRead};
 ghost use Rattle.command_words.specs.Notes.{is_fault};
 ghost use Rattle.pinot_run.specs.Promise.{Counted, IsQuiet, IsStep, Leaves, Noted, Promise};
 ghost use Rattle.pinot_run.specs.Generate.{Generates, after};
-ghost use Rattle.pinot_run.specs.Script.{Does, OfOne, OfRows, OfScript, RunsScript};
+ghost use Rattle.pinot_run.specs.Script.{Does, DoesOne, OfOne, OfRows, OfScript, RunsScript};
 ghost use Rattle.command_model.specs.Ran.{Ran, WhereStands};
 ghost use Rattle.command_model.specs.Step.{HasStep, status_after};
 ghost use Rattle.command_model.specs.Touched.{Touched};
@@ -116,8 +116,8 @@ fn run_call<I: Shelf, D: Depot, O: Sink, N: Sink>(
     }
 }
 
-// Does what words ask for that ask for no script.
-fn run_one<I: Shelf, D: Depot, O: Sink, N: Sink>(
+/// Does what words ask for that ask for no script, as a line of one.
+pub(crate) fn run_one<I: Shelf, D: Depot, O: Sink, N: Sink>(
     alloc: Global,
     words: &[String],
     inputs: &mut I,
@@ -125,7 +125,7 @@ fn run_one<I: Shelf, D: Depot, O: Sink, N: Sink>(
     out: &mut O,
     notes: &mut N,
 ) -> Status
-    ensures { Does Promise (request_of (map string_bytes words.now))
+    ensures { DoesOne Promise (request_of (map string_bytes words.now))
         (world I.Shelf D.Shelf O.Sink N.Sink inputs.old depot.old out.old notes.old) result
         (world I.Shelf D.Shelf O.Sink N.Sink inputs.new depot.new out.new notes.new) }
 {
@@ -181,8 +181,8 @@ fn reply_to<I: Shelf, D: Depot>(
     }
 }
 
-/// Runs a command, and gives its reply.
-pub(crate) fn run<I: Shelf, D: Depot, O: Sink, N: Sink>(
+// Runs a command, and gives its reply.
+fn run<I: Shelf, D: Depot, O: Sink, N: Sink>(
     alloc: Global,
     words: &[String],
     inputs: &mut I,

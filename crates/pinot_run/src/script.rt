@@ -4,11 +4,11 @@ ghost use Rattle.outside.specs.Seen.{heard};
 ghost use Rattle.command_words.specs.Notes.{is_fault};
 ghost use Rattle.command_model.specs.World.{world};
 ghost use Rattle.pinot_run.specs.Promise.{Promise};
-ghost use Rattle.pinot_run.specs.Script.{EndsAt, GivesMark, GoesOn, RunsLines, RunsScript, mark_of};
-ghost use Rattle.pinot_run.specs.Text.{line_command, lines_of, words_of};
+ghost use Rattle.pinot_run.specs.Script.{DoesOne, EndsAt, GivesMark, GoesOn, RunsLines, RunsScript, mark_of};
+ghost use Rattle.pinot_run.specs.Text.{line_request, lines_of, words_of};
 
 use crate::finish::{give_note, note_fault, put_some, status_of_fault};
-use crate::run::run;
+use crate::run::run_one;
 use command_words::{Status, Stop};
 use commands::laws::idle_law;
 use commands::script::open_script;
@@ -84,7 +84,7 @@ fn run_line<I: Shelf, D: Depot, O: Sink, N: Sink>(
     give_mark(said, out, notes)
 }
 
-// Runs the command of a line.
+// Does what a line asks for.
 fn run_words<I: Shelf, D: Depot, O: Sink, N: Sink>(
     alloc: Global,
     line: &str,
@@ -93,13 +93,13 @@ fn run_words<I: Shelf, D: Depot, O: Sink, N: Sink>(
     out: &mut O,
     notes: &mut N,
 ) -> Status
-    ensures { Promise (line_command line.now)
+    ensures { DoesOne Promise (line_request line.now)
         (world I.Shelf D.Shelf O.Sink N.Sink inputs.old depot.old out.old notes.old) result
         (world I.Shelf D.Shelf O.Sink N.Sink inputs.new depot.new out.new notes.new) }
 {
     idle_law();
     match words_in(alloc, line) {
-        Ok(words) => run(alloc, words.as_slice(), inputs, depot, out, notes),
+        Ok(words) => run_one(alloc, words.as_slice(), inputs, depot, out, notes),
         Err(_) => note_fault(Status::NoMemory, notes),
     }
 }

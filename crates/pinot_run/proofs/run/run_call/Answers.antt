@@ -2,6 +2,7 @@ use Rattle.std.proofs.Common.{subst, sym}
 use Rattle.command_model.specs.World.{World, world}
 use Rattle.pinot_run.specs.Promise.{Promise}
 use Rattle.pinot_run.specs.Script.{Does}
+use Rattle.pinot_run.proofs.ScriptLemmas.{does_one}
 use Rattle.pinot_run.proofs.run.run_call.Goals as goal
 
 pub returns-in-Some : goal.returns-in-Some
@@ -14,4 +15,4 @@ pub returns-in-None : goal.returns-in-None
 returns-in-None g c =
     let old : World = world g.I.Shelf g.D.Shelf g.O.Sink g.N.Sink c.args.inputs.now c.args.depot.now c.args.out.now c.args.notes.now in
     let new : World = world g.I.Shelf g.D.Shelf g.O.Sink g.N.Sink c.run_one.new.inputs c.run_one.new.depot c.run_one.new.out c.run_one.new.notes in
-    subst (λ r. Does Promise r old c.run_one.result new) (sym c.in-None.ensures) c.run_one.ensures
+    subst (λ r. Does Promise r old c.run_one.result new) (sym c.in-None.ensures) (does_one _ old c.run_one.result new c.run_one.ensures)
