@@ -32,8 +32,8 @@ GenerateSteps = (rows : ℕ) (files kept : Files) (state : State) (old new : Wor
 
 -- ---- with a fault
 
--- the state after the first of the commands: where there was no table, the one that is made, without
--- a segment
+-- the state after the first of the commands: where there was no table, the one that is made,
+-- without a segment
 abbrev pub table_alone : State → ℕ → Files → State
 table_alone state rows files =
     (step_of state (Some (Create (GeneratedTexts rows))) files no_finding).state

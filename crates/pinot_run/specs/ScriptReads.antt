@@ -76,7 +76,8 @@ docs_of table rows n command = of_command 0 (plan_docs table rows n) table rows 
 
 -- of a segment with these rows, where no line plans it as a scan, no byte of its rows was read; and
 -- of each star-tree as many bytes as the documents have that the lines are to read, added up, or
--- where not all was done at most so many
+-- where not all was done at most so many; a line that generates rows spells no command here, since
+-- it is refused where there is a table
 pub record LinesRead (table : Table) (name : List ℕ) (rows : List (List Value))
     (lines : List (List ℕ)) (all_done : Bool) (entries : List Entry) : Type 0 where
   pub raw : All (λ line. scans table rows (line_command line) ≡ false) lines
