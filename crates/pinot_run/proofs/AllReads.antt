@@ -1,5 +1,5 @@
 -- What the lines of a script read of a segment, added up.
-use Rattle.std.proofs.Common.{◌≡◌, ◌≢◌, ◌∙◌, ◌≤◌, ◌+◌, ◌*◌, ◌++◌, ◌==◌, inl, inr, ℕ, Bool, true, false, List, [], ◌∷◌, All, Option, Some, None, Result, Ok, Err, IfSome, cond, option_map, slice_get, refl, sym, ap, subst, arith, append_assoc, append-nil}
+use Rattle.std.proofs.Common.{◌≡◌, ◌≢◌, ◌∙◌, ◌+◌, ◌*◌, ◌++◌, ◌==◌, inl, inr, ℕ, Bool, true, false, List, [], ◌∷◌, All, Option, Some, None, Result, Ok, Err, IfSome, cond, option_map, slice_get, refl, sym, ap, subst, arith, append_assoc, append-nil}
 use Rattle.std.proofs.lemmas.Bool.Decides.{nat_tests}
 use Rattle.std.proofs.lemmas.Slice.Eq.{bytes_eq-Decides}
 use Rattle.std.specs.Str.{bytes_eq}
@@ -29,7 +29,6 @@ use Rattle.table_store.specs.Accepted.{IsAccepted}
 use Rattle.table_store.specs.Stands.{segment_of}
 use Rattle.table_store.specs.State.{HasTable, Segment, Segments, State, Texts}
 use Rattle.command_words.specs.Command.{Ask, Attach, Build, Command, Create, Drop, GeneratedTexts, Listing, Look, Open, Scan as ScanFile, command_of, number_of, rows_asked, unless_rows}
-use Rattle.command_words.specs.Notes.{is_fault}
 use Rattle.command_words.specs.declared.aim.Aim.{Aim}
 use Rattle.command_words.specs.declared.about.About.TheVariants.{Plans, Rows, RowsAndPlans}
 use Rattle.command_words.specs.declared.status.Status.{Status}
@@ -39,8 +38,8 @@ use Rattle.command_model.specs.World.{Devices, Stage}
 use Rattle.pinot_run.specs.Generate.{Generates, aside}
 use Rattle.pinot_run.specs.Headline.{LeavesOf, Moves, ReadsOf}
 use Rattle.pinot_run.specs.Laws.{ReadsFor, ReadsSegment, ReadsState, is_done}
-use Rattle.pinot_run.specs.Script.{DoesOne, EndsAt, GoesOn, RunsLines}
-use Rattle.pinot_run.specs.ScriptReads.{Finishes, LinesRead, ReadsAll, ScriptReads, docs_of, goes_by_plan, is_scan, of_text, plan_docs, scans}
+use Rattle.pinot_run.specs.Script.{DoesOne, EndsAt, RunsLines}
+use Rattle.pinot_run.specs.ScriptReads.{Finishes, LinesRead, ScriptReads, docs_of, goes_by_plan, is_scan, of_text, plan_docs, scans}
 use Rattle.pinot_run.specs.Text.{line_command, line_request, words_of}
 use Rattle.table_store.proofs.NameLemmas.{is_name}
 use Rattle.pinot_run.proofs.DoneLemmas.{not_done, write_not_done}

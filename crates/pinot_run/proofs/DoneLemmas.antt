@@ -1,5 +1,5 @@
 -- A script that ends well has printed the reply and the mark of each line.
-use Rattle.std.proofs.Common.{◌≡◌, ◌≢◌, ◌∙◌, ◌++◌, inl, inr, ℕ, Bool, true, false, List, [], ◌∷◌, length, nat_lt, Option, Some, None, IfSome, IsSomeAnd, cond, refl, sym, ap, subst, append_assoc, append-nil}
+use Rattle.std.proofs.Common.{◌≡◌, ◌≢◌, ◌∙◌, ◌++◌, inl, inr, ℕ, Bool, true, false, List, [], ◌∷◌, length, nat_lt, Option, Some, None, IsSomeAnd, cond, refl, sym, ap, subst, append_assoc}
 use Rattle.std.specs.FinMap as map
 use Rattle.std.specs.Str.{is_utf8}
 use Rattle.outside.specs.Files.{Files, OfFile}
@@ -15,11 +15,11 @@ use Rattle.command_words.specs.declared.note.Note.TheVariants as note
 use Rattle.command_model.specs.Profile.{script_limit}
 use Rattle.command_model.specs.Step.{After, HasStep, Refuses, opened, script_answer, status_after, step_of, text_of}
 use Rattle.command_model.specs.Through.{generate_step}
-use Rattle.command_model.specs.World.{Stage, World, beside}
-use Rattle.pinot_run.specs.Headline.{LeavesOf, Moves}
+use Rattle.command_model.specs.World.{Stage, beside}
+use Rattle.pinot_run.specs.Headline.{Moves}
 use Rattle.pinot_run.specs.Promise.{IsGiven, Promise}
-use Rattle.pinot_run.specs.Script.{DoesOne, EndsAt, GoesOn, RunsLines, RunsScript, mark_of}
-use Rattle.pinot_run.specs.ScriptLaws.{DonePrints, IsStepOf, Prints, PrintsAll}
+use Rattle.pinot_run.specs.Script.{DoesOne, EndsAt, RunsLines, mark_of}
+use Rattle.pinot_run.specs.ScriptLaws.{DonePrints, IsStepOf, Prints}
 use Rattle.pinot_run.specs.Text.{line_request, lines_of}
 use Rattle.pinot_run.proofs.GenerateSteps.{generates_given}
 use Rattle.pinot_run.proofs.HeadlineLemmas.{StandsIn, given_of, moves_on, stands_still}

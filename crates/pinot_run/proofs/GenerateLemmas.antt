@@ -1,7 +1,6 @@
 -- What the commands of `generate` did is what each of them promises, with streams of its own.
-use Rattle.std.proofs.Common.{◌≡◌, ◌≢◌, ◌⊎◌, ◌∙◌, ◌≤◌, inl, inr, ℕ, true, false, List, [], ◌∷◌, Option, Some, None, Result, Ok, Err, length, refl, sym, ap, subst, le_refl, arith}
+use Rattle.std.proofs.Common.{◌≡◌, ◌≢◌, ◌⊎◌, ◌∙◌, inl, inr, ℕ, true, false, List, [], ◌∷◌, Option, Some, None, Ok, Err, length, refl, sym, ap, subst, le_refl, arith}
 use Rattle.std.proofs.lemmas.List.{take_all}
-use Rattle.outside.specs.Counts.{Rose}
 use Rattle.outside.specs.Seen.{Heard}
 use Rattle.outside.specs.Sink.{appended, AppendsPrefix}
 use Rattle.command_words.specs.Command.{Command, Create, GeneratedTexts, unless_rows}
@@ -19,7 +18,7 @@ use Rattle.command_model.specs.Ran.{Ran}
 use Rattle.command_model.specs.Step.{Refuses}
 use Rattle.command_model.specs.Through.{EndsAs, RanGenerate, RanThrough}
 use Rattle.command_model.specs.World.{Devices, World}
-use Rattle.pinot_run.specs.Generate.{Generates, IsPartPrinted, IsPrinted, RunsThrough, Tells, after, aside, line_after, told}
+use Rattle.pinot_run.specs.Generate.{Generates, RunsThrough, Tells, after, aside, line_after, told}
 use Rattle.pinot_run.specs.Promise.{Noted, Promise}
 use Rattle.pinot_run.specs.Script.{DoesOne}
 use Rattle.pinot_run.proofs.PromiseLemmas.{GaveNote, GaveText, fault_promise, faults_are, line_promise, nothing_more, text_promise, unnoted}

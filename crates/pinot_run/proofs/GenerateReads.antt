@@ -1,21 +1,19 @@
 -- What the commands of `generate` read of the star-trees of its segment.
-use Rattle.std.proofs.Common.{◌≡◌, ◌≢◌, ◌∙◌, ◌+◌, ◌*◌, ◌++◌, inl, inr, ℕ, true, false, List, [], ◌∷◌, All, Option, Some, None, IfSome, option_map, slice_get, refl, sym, ap, subst, arith, append-nil}
+use Rattle.std.proofs.Common.{◌≡◌, ◌∙◌, ◌+◌, ◌++◌, inl, inr, ℕ, true, List, [], ◌∷◌, All, Option, Some, slice_get, refl, sym, subst, arith}
 use Rattle.std.specs.FinMap as map
 use Rattle.outside.specs.Files.{Files}
 use Rattle.outside.specs.Reads.{Entry}
 use Rattle.outside.proofs.ReadLemmas.{read_in-append, read_in-others}
-use Rattle.values.specs.declared.value.Value.{Value}
 use Rattle.table_schema.specs.declared.settings.TreeSetting.{TreeSetting}
 use Rattle.table_schema.specs.declared.table.Table.{Table}
 use Rattle.segment_file.specs.Names.{file_of}
 use Rattle.segment_head.specs.Stored.{live}
-use Rattle.segment_reads.specs.Reads.{Grown, bytes_read, star_span}
+use Rattle.segment_reads.specs.Reads.{bytes_read, star_span}
 use Rattle.table_store.specs.Accepted.{IsAccepted}
 use Rattle.table_store.specs.State.{HasTable, Segment, Segments, State, Texts}
 use Rattle.table_store.specs.TableFile.{table_name}
 use Rattle.table_store.proofs.SegmentLemmas.{not_table}
-use Rattle.command_words.specs.Command.{Ask, Build, Command, Create, GeneratedRows, GeneratedTexts}
-use Rattle.command_words.specs.Notes.{is_fault}
+use Rattle.command_words.specs.Command.{Ask, Command}
 use Rattle.command_words.specs.declared.status.Status.{Status}
 use Rattle.command_words.specs.declared.status.Status.TheVariants as status
 use Rattle.command_words.specs.declared.about.About.TheVariants.{RowsAndPlans}
@@ -88,7 +86,9 @@ module _ (files : Files) (texts : Texts) (segments : Segments) (table : Table) (
   later_read : (x y : List Entry) → All (λ entry. entry.file ≡ table_name) x → TreesRead table segment.rows y → TreesRead table segment.rows (x ++ y)
   later_read x y all read n setting there =
       let sums : Star (x ++ y) n ≡ Star x n + Star y n = read_in-append x y (file_of generated_name) (star_span table generated_name segment.rows n).from (star_span table generated_name segment.rows n).to in
-      sums ∙ ap (λ k. k + Star y n) (none_read x n all) ∙ read n setting there
+      let none : Star x n ≡ 0 = none_read x n all in
+      let same : Star (x ++ y) n ≡ Star y n = omega (arith, sums, none) in
+      same ∙ read n setting there
 
   -- all four commands, over logs
   all_read : (rows : ℕ) (old : Devices) (kept : State) (replies : List (List ℕ)) (line : List ℕ) (new : Devices) (left : State) → left ≡ HasTable texts segments → RunsThrough (Does files) (generate_commands rows) old kept status.Done replies line new left → Grew (TreesRead table segment.rows) old.depot.log new.depot.log

@@ -1,21 +1,21 @@
 -- What `generate` does is what the steps of its commands do, one after another.
-use Rattle.std.proofs.Common.{◌≡◌, ◌≢◌, ◌⊎◌, ◌∙◌, inl, inr, ℕ, true, false, List, [], ◌∷◌, Option, Some, None, Ok, IsSomeAnd, refl, sym, ap, subst}
+use Rattle.std.proofs.Common.{◌≡◌, ◌≢◌, ◌∙◌, inl, inr, ℕ, true, false, List, [], ◌∷◌, Option, Some, None, IsSomeAnd, refl, sym, ap, subst}
 use Rattle.outside.specs.Files.{Files}
 use Rattle.outside.specs.Sink.{appended}
 use Rattle.table_store.specs.Images.{Found}
 use Rattle.table_store.specs.Stands.{Stands}
-use Rattle.table_store.specs.State.{HasTable, NoTable, State}
+use Rattle.table_store.specs.State.{State}
 use Rattle.command_words.specs.Command.{Command}
 use Rattle.command_words.specs.Notes.{is_fault, note_text, status_of}
 use Rattle.command_words.specs.declared.note.Note.{Note}
 use Rattle.command_words.specs.declared.status.Status.{Status}
 use Rattle.command_words.specs.declared.status.Status.TheVariants as status
-use Rattle.command_model.specs.Generated.{generate_commands, generated_text}
+use Rattle.command_model.specs.Generated.{generate_commands}
 use Rattle.command_model.specs.Step.{After, Answer, HasStep, Refuses, Replies, line_of, status_after, step_of, text_of}
-use Rattle.command_model.specs.Through.{Chain, after_answer, chain_after, chain_answer, generate_step, no_finding, through}
-use Rattle.command_model.specs.World.{Devices, Stage, World, beside}
-use Rattle.pinot_run.specs.Generate.{Generates, RunsThrough, Tells, aside, line_after}
-use Rattle.pinot_run.specs.GenerateLaws.{FollowsStep, GenerateSteps}
+use Rattle.command_model.specs.Through.{Chain, after_answer, chain_answer, generate_step, no_finding, through}
+use Rattle.command_model.specs.World.{Devices, Stage, beside}
+use Rattle.pinot_run.specs.Generate.{Generates, RunsThrough, aside, line_after}
+use Rattle.pinot_run.specs.GenerateLaws.{GenerateSteps}
 use Rattle.pinot_run.specs.Headline.{Moves}
 use Rattle.pinot_run.specs.Promise.{IsGiven, Promise}
 use Rattle.pinot_run.proofs.GenerateLemmas.{none_after}

@@ -1,5 +1,5 @@
 -- What a fault may leave of `generate`: the state before, the table alone, or all of it.
-use Rattle.std.proofs.Common.{◌≡◌, ◌≢◌, ◌⊎◌, ◌∙◌, ◌<◌, ◌-◌, ◌^◌, inl, inr, ℕ, true, false, List, [], ◌∷◌, Option, Some, None, refl, sym, ap, subst, arith, lit<}
+use Rattle.std.proofs.Common.{◌≡◌, ◌⊎◌, ◌∙◌, ◌<◌, ◌-◌, ◌^◌, inl, inr, ℕ, true, false, List, [], ◌∷◌, Option, Some, refl, sym, ap, subst, arith, lit<}
 use Rattle.outside.specs.Counts.{Rose}
 use Rattle.outside.specs.Files.{Files}
 use Rattle.outside.specs.Sink.{AppendsPrefix}
@@ -13,9 +13,9 @@ use Rattle.command_words.specs.declared.status.Status.TheVariants as status
 use Rattle.command_words.specs.declared.about.About.TheVariants.{RowsAndPlans}
 use Rattle.command_model.specs.Generated.{generate_commands, generated_name, scan_query, tree_query}
 use Rattle.command_model.specs.Step.{After, Answer, HasStep, Refuses, Replies, status_after, step_of, text_of}
-use Rattle.command_model.specs.Through.{Chain, after_answer, chain_answer, generate_step, no_finding, through}
-use Rattle.command_model.specs.World.{Devices, Stage, World, beside}
-use Rattle.pinot_run.specs.Generate.{Generates, RunsThrough, aside, line_after}
+use Rattle.command_model.specs.Through.{Chain, after_answer, generate_step, no_finding, through}
+use Rattle.command_model.specs.World.{Devices, Stage, beside}
+use Rattle.pinot_run.specs.Generate.{Generates, RunsThrough, aside}
 use Rattle.pinot_run.specs.GenerateLaws.{GenerateStops, IsOneOf, table_alone}
 use Rattle.pinot_run.specs.Headline.{Moves}
 use Rattle.pinot_run.specs.Promise.{Promise}

@@ -1,5 +1,5 @@
 -- Any calls, one after another, lead on from a state that the store stands for.
-use Rattle.std.proofs.Common.{◌≡◌, ◌⊎◌, ◌∙◌, inl, inr, ℕ, false, List, [], ◌∷◌, Option, Some, None, IfSome, IsSomeAnd, refl, sym, ap, subst}
+use Rattle.std.proofs.Common.{◌≡◌, ◌∙◌, inl, inr, false, [], ◌∷◌, Option, Some, None, IfSome, IsSomeAnd, refl, sym, ap, subst}
 use Rattle.std.specs.FinMap as map
 use Rattle.outside.specs.Files.{Files, name_order}
 use Rattle.outside.specs.Seen.{Seen}
@@ -14,7 +14,6 @@ use Rattle.command_model.specs.Ran.{Acted, IsStepped}
 use Rattle.command_model.specs.Step.{After, Answer, HasStep, step_of, text_of}
 use Rattle.command_model.specs.Profile.{profile}
 use Rattle.command_model.specs.World.{Devices, Stage, World, beside}
-use Rattle.pinot_run.specs.Calls.{AreCalls, Call}
 use Rattle.pinot_run.specs.Headline.{FromEmpty, Headline, LeavesOf, Moves, Proceeds, ReadsOf}
 use Rattle.pinot_run.specs.Promise.{IsAnswered, IsGiven, IsUndone, Leaves, Promise}
 use Rattle.pinot_run.specs.Script.{Does}

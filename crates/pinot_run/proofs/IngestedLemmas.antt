@@ -36,10 +36,10 @@ use Rattle.command_model.specs.Attach.{AsksCheck, FitsCheck, attached_rows, file
 use Rattle.command_model.specs.Build.{new_rows, table_of}
 use Rattle.command_model.specs.Create.{Made, table_from}
 use Rattle.command_model.specs.Queried.{all_rows, each_rows, rows_in}
-use Rattle.command_model.specs.Step.{After, HasStep, IsFinding, Replies, attached_to, created, rows_answer, sql_answered, step_of, text_of, with_attached, with_rows, with_table, without_segment}
+use Rattle.command_model.specs.Step.{HasStep, IsFinding, Replies, attached_to, created, rows_answer, sql_answered, step_of, text_of, with_attached, with_rows, with_table, without_segment}
 use Rattle.command_model.specs.World.{Stage}
 use Rattle.command_model.proofs.MachineLemmas.{read_as}
-use Rattle.pinot_run.specs.Headline.{Answers, AnswersRows, Ingests, IsAttachOf, IsBuildOf, IsIngested, IsOfMoves, IsOn, IsSource, LeavesOf, Move, Moves, Reaches, RowsAreIngested}
+use Rattle.pinot_run.specs.Headline.{AnswersRows, Ingests, IsIngested, IsOfMoves, IsOn, IsSource, LeavesOf, Move, Moves, Reaches, RowsAreIngested}
 
 -- ---- what a query prints
 

@@ -1,5 +1,5 @@
 -- The lines of a script, run one after another, and its opening.
-use Rattle.std.proofs.Common.{◌≡◌, ◌≢◌, ◌⊎◌, ◌∙◌, ◌≤◌, ◌<◌, ◌+◌, ◌/◌, ◌%◌, ◌^◌, ◌++◌, ◌==◌, inl, inr, ℕ, Bool, true, false, List, [], ◌∷◌, Option, Some, None, Result, Ok, Err, cond, filter, get_or, length, map, take, refl, sym, ap, subst, arith, le_refl}
+use Rattle.std.proofs.Common.{◌≡◌, ◌≢◌, ◌⊎◌, ◌∙◌, ◌≤◌, ◌<◌, ◌+◌, ◌/◌, ◌%◌, ◌^◌, ◌++◌, ◌==◌, inl, inr, ℕ, true, false, List, [], ◌∷◌, Option, Some, None, Result, Ok, Err, cond, filter, get_or, length, map, take, refl, sym, ap, subst, arith, le_refl}
 use Rattle.std.specs.Fmt.{decimal}
 use Rattle.std.specs.Prelude.{MatchResult, codes}
 use Rattle.std.proofs.lemmas.Fmt.{decimal_digit, decimal_step}
@@ -18,7 +18,7 @@ use Rattle.command_words.specs.declared.status.Status.{Status}
 use Rattle.command_words.specs.declared.status.Status.TheVariants as status
 use Rattle.command_model.specs.World.{World}
 use Rattle.pinot_run.specs.Generate.{Generates}
-use Rattle.pinot_run.specs.Promise.{Noted, Promise}
+use Rattle.pinot_run.specs.Promise.{Promise}
 use Rattle.pinot_run.specs.Script.{Does, DoesOne, EndsAt, GivesMark, GoesOn, OfOne, OfRows, OfScript, RunsLines, RunsScript}
 use Rattle.pinot_run.specs.Text.{has_bytes, line_request}
 use Rattle.pinot_run.proofs.PromiseLemmas.{GaveText, nothing_more, unnoted}

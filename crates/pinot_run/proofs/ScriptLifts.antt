@@ -1,12 +1,12 @@
 -- What each command of a script does leads to what all of them do.
-use Rattle.std.proofs.Common.{◌≡◌, ◌⊎◌, inl, inr, ℕ, List, [], ◌∷◌, Option, Some, refl, ap}
+use Rattle.std.proofs.Common.{◌≡◌, inl, inr, ℕ, List, [], ◌∷◌, Option, Some, refl, ap}
 use Rattle.command_words.specs.Command.{Command, Generate, One, Open, Request, Script}
 use Rattle.command_words.specs.declared.status.Status.{Status}
 use Rattle.command_model.specs.Generated.{generate_commands}
 use Rattle.command_model.specs.World.{Devices, Stage, World, beside}
 use Rattle.pinot_run.specs.Generate.{Generates, RunsThrough, Tells, aside}
 use Rattle.command_words.specs.declared.status.Status.TheVariants as status
-use Rattle.pinot_run.specs.Script.{Does, DoesOne, EndsAt, FollowsOn, GoesOn, IsMarkCut, IsMarked, RunsLines, RunsScript}
+use Rattle.pinot_run.specs.Script.{Does, DoesOne, EndsAt, IsMarkCut, IsMarked, RunsLines, RunsScript}
 use Rattle.pinot_run.specs.Text.{line_request, lines_of}
 
 -- where what one command does leads from something kept to what is kept then, and no mark changes what holds of it, the lines of a script and a script do

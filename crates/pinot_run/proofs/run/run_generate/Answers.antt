@@ -1,5 +1,5 @@
 use Rattle.std.proofs.Common.{◌∙◌, Err, ap, subst, sym}
-use Rattle.outside.specs.Seen.{Heard, Seen, heard, seen}
+use Rattle.outside.specs.Seen.{Heard, heard, seen}
 use Rattle.command_words.specs.Notes.{is_fault}
 use Rattle.command_model.specs.Through.{RanGenerate}
 use Rattle.command_model.specs.World.{Devices, World}

@@ -1,6 +1,6 @@
 use Rattle.std.proofs.Common.{inl, refl, sym, ◌∙◌}
 use Rattle.outside.specs.Seen.{heard}
-use Rattle.command_model.specs.World.{World, world}
+use Rattle.command_model.specs.World.{world}
 use Rattle.pinot_run.proofs.ScriptLemmas.{line_marked}
 use Rattle.pinot_run.proofs.script.run_line.Goals as goal
 

@@ -1,6 +1,6 @@
 use Rattle.std.proofs.Common.{◌∙◌, Err, Some, ap, inl, inr, refl, subst, sym}
 use Rattle.outside.specs.Seen.{Heard, heard, seen}
-use Rattle.command_words.specs.Command.{Command, Open}
+use Rattle.command_words.specs.Command.{Open}
 use Rattle.command_words.specs.Notes.{is_fault}
 use Rattle.command_words.specs.declared.status.Status.TheVariants as status
 use Rattle.command_model.specs.Ran.{Ran}
