@@ -12,7 +12,7 @@ use Rattle.segment_file.proofs.TreeChecks.{few_kinds, valid_at}
 use Rattle.segment_build.specs.Growing.{IsTooLarge, nodes_grown, stars_grown}
 use Rattle.segment_build.specs.Made.{each_bytes}
 use Rattle.segment_build.specs.Merging.{AreMerged, IsMerged}
-use Rattle.segment_build.proofs.CodedColumns.{in_rows}
+use Rattle.segment_build.proofs.ColumnCodes.{in_rows}
 use Rattle.segment_build.proofs.Built.{tree_made}
 use Rattle.segment_build.proofs.Growing.{fits_more, grown_more}
 use Rattle.segment_build.proofs.MergeLemmas.{drop_next, zip_next}

@@ -33,19 +33,6 @@ rows_most fields t are =
 
 -- ---- the ids of one more column, and its sections
 
-pub coded_is : (table : Table) (t : ListedColumns) (at : ℕ) (field : Field) (column : Listed) (o : RowOrder) (d : Distinct) (ids : List ℕ) → AreColumns table.schema.fields t → at < length table.schema.fields
-    → field ≡ get_or table.schema.fields at field → column ≡ get_or t.columns at column → Orders table.settings.sorted (rows_of t) o
-    → d ≡ record { kind = field.kind; values = distinct column.values } → ids ≡ arranged 0 o (ids_in column.values) → IsCoded table t at d ids
-coded_is table t at field column o d ids are lt field_is column_is orders d_is i_is =
-    let below : at < length t.columns = omega (arith, lt, are.width) in
-    let found : slice_get table.schema.fields at ≡ Some field = slice_get-get_or table.schema.fields at field lt ∙ ap Some (sym field_is) in
-    let values : values_in at (rows_of t) ≡ column.values = column_values t.count t.columns at column are.counts below ∙ ap (λ c. c.values) (sym column_is) in
-    let same : distinct column.values ≡ distinct (values_in at (in_rows table t)) = ap distinct (sym values) ∙ sym (same_distinct at table.settings.sorted (rows_of t)) in
-    record {
-      distinct_is = d_is ∙ (λ i. record { kind = ap kind_or (sym found) i; values = same i });
-      ids_is = i_is ∙ ap (λ vs. arranged 0 o (ids_in vs)) (sym values) ∙ sym (ids_arranged table.settings.sorted (rows_of t) o at orders);
-    }
-
 pub coded_few : (table : Table) (t : ListedColumns) (at : ℕ) (d : Distinct) (ids : List ℕ) → AreColumns table.schema.fields t → IsCoded table t at d ids → length ids ≤ 1048576
 coded_few table t at d ids are coded =
     omega (arith, ap length coded.ids_is, ids_count (in_rows table t) at, ordered_count table.settings.sorted (rows_of t), rows_most table.schema.fields t are)
@@ -57,12 +44,6 @@ coded_below table t at d ids coded =
 pub coded_up : (table : Table) (t : ListedColumns) (at : ℕ) (o : RowOrder) (d : Distinct) (ids : List ℕ) (is : Bool) → Orders table.settings.sorted (rows_of t) o → IsCoded table t at d ids
     → is ≡ is_the_number at table.settings.sorted → is ≡ true → IsNonDecreasing ids
 coded_up table t at o d ids is orders coded number holds = subst IsNonDecreasing (sym coded.ids_is) (sorted_up table.settings.sorted (rows_of t) o at orders (sym number ∙ holds))
-
--- the places of the order are among the values of each column
-pub places_within : (table : Table) (t : ListedColumns) (at : ℕ) (column : Listed) (o : RowOrder) → AreColumns table.schema.fields t → Counts t.count column → Orders table.settings.sorted (rows_of t) o
-    → AreBelow (length column.values) (places_in o)
-places_within table t at column o are counts orders =
-    subst (λ n. AreBelow n (places_in o)) (length-rows t.count t.columns are.counts ∙ sym counts) orders.within
 
 pub coded_more : (table : Table) (t : ListedColumns) (at : ℕ) (d : Distinct) (ids : List ℕ) (indexes : Indexes) (made new : Made) → IsValidTable table → at < length table.schema.fields → IsCoded table t at d ids
     → indexes.sorted ≡ is_the_number at table.settings.sorted → indexes.inverted ≡ get_or table.settings.inverted at false
