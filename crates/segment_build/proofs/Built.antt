@@ -1,5 +1,5 @@
 -- The file of the sections of columns is the image of their rows.
-use Rattle.std.proofs.Common.{◌≡◌, ◌<◌, ◌≤◌, ◌^◌, ◌∙◌, ◌∷◌, ◌++◌, [], true, false, ℕ, List, Option, Some, Result, Ok, Err, IfOk, length, map, get_or, slice_get, sym, ap, subst, arith}
+use Rattle.std.proofs.Common.{◌≡◌, ◌<◌, ◌≤◌, ◌^◌, ◌∙◌, ◌∷◌, ◌++◌, [], true, false, ℕ, List, Option, Some, length, map, get_or, sym, subst, arith}
 use Rattle.std.specs.List.{All, concat}
 use Rattle.values.specs.declared.value.Value.{Value}
 use Rattle.values.specs.Columns.{Counts, Listed, ListedColumns, rows_of}
@@ -14,16 +14,13 @@ use Rattle.segment_file.specs.Image.{front_of, image, sections_of_rows, values_i
 use Rattle.segment_file.specs.Names.{IsSegmentName}
 use Rattle.segment_file.specs.Ordered.{ordered, value_in}
 use Rattle.segment_build.specs.Fitting.{AreColumns, FitsKind}
-use Rattle.segment_build.specs.declared.coding.RowOrder.{RowOrder}
-use Rattle.segment_build.specs.Arranging.{Orders, OrdersBy}
 use Rattle.segment_build.proofs.ColumnLemmas.{column_values}
 use Rattle.segment_build.proofs.SectionLemmas.{made_all}
 use Rattle.segment_build.proofs.Stable.{ordered_count, same_distinct}
 use Rattle.std.proofs.lemmas.List.{length-map}
 use Rattle.std.proofs.lemmas.Bool.{ltb-true}
-use Rattle.std.proofs.lemmas.Option.{get_or_from_slice_get}
 use Rattle.table_schema.specs.ValidSettings.{IsValidTree, is_known_number}
-use Rattle.segment_build.proofs.Fits.{column_fit, columns_fit, rows_few}
+use Rattle.segment_build.proofs.Fits.{column_fit, rows_few}
 use Rattle.segment_build.proofs.Sizes.{IsModest, IsSmall, file_short, made_small, nodes_small, short_values, stars_small}
 use Rattle.segment_build.specs.Growing.{TreesFit, nodes_grown, stars_grown}
 use Rattle.segment_file.proofs.ImageRows.{ordered_all}

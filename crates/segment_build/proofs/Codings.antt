@@ -1,5 +1,5 @@
 -- Columns of ids are the columns of values that they code.
-use Rattle.std.proofs.Common.{◌≡◌, ◌∙◌, ◌<◌, ◌≤◌, ◌+◌, ℕ, zero, suc, ℤ, List, [], ◌∷◌, ◌++◌, length, map, take, get_or, replicate, slice_get, Option, Some, None, refl, sym, ap, subst, arith, true, false, Result, Ok, Err, IfOk}
+use Rattle.std.proofs.Common.{◌≡◌, ◌∙◌, ◌<◌, ◌≤◌, ◌+◌, ℕ, zero, suc, ℤ, List, [], ◌∷◌, ◌++◌, length, map, take, get_or, replicate, slice_get, Option, Some, refl, sym, ap, subst, arith, true, false, Result, Ok, Err, IfOk}
 use Rattle.std.specs.Prelude.{pos, nat_lt}
 use Rattle.std.proofs.Math.ListN.{get_or-append}
 use Rattle.std.proofs.lemmas.Bool.{ltb-false, ltb-true}
@@ -7,7 +7,6 @@ use Rattle.std.proofs.lemmas.List.{get_or-map, get_or_at, length-map, length_pus
 use Rattle.std.proofs.lemmas.List.Elements.{All-from_get_or, All-head, All-tail}
 use Rattle.std.proofs.lemmas.Option.{get_or_from_slice_get, slice_get-get_or}
 use Rattle.std.specs.List.{All}
-use Rattle.values.specs.declared.value.Value.{Value}
 use Rattle.values.specs.declared.value.Value.TheVariants.{Text, Whole}
 use Rattle.values.specs.Columns.{Counts, Listed, ListedColumns, fronted, rows_in_columns, rows_of}
 use Rattle.values.proofs.RowLemmas.{length-rows}
@@ -18,7 +17,6 @@ use Rattle.table_schema.specs.declared.table.Table.{Table}
 use Rattle.table_schema.specs.NeedIds.{is_the_number}
 use Rattle.table_schema.specs.ValidTable.{AreRows}
 use Rattle.segment_file.specs.Columns.{ids_of, kind_at, kind_or, values_in}
-use Rattle.segment_file.specs.Ordered.{ordered}
 use Rattle.segment_file.specs.Trees.{number_of}
 use Rattle.segment_build.specs.declared.coded.CodedColumn.{CodedColumn}
 use Rattle.segment_build.specs.declared.coded.CodedColumns.{CodedColumns}
@@ -197,24 +195,26 @@ coded_all table t coded of so number =
     let long : length made ≡ length all = length-map all decoded in
     let wide : length made ≡ length t.columns = long ∙ so.many ∙ sym of.columns.width in
     let same : (k : ℕ) → k < length made → (get_or made k no_values).values ≡ (get_or t.columns k no_values).values = λ k lt.
-        let within : k < length all = omega (arith, lt, long) in
-        let own = some_at all k within in
-        let is : own.0 ≡ get_or all k own.0 = sym (get_or_from_slice_get all k own.0 own.0 own.1) in
-        ap (λ (l : Listed). l.values) (sym (decoded_at coded k own.0 no_values within is)) ∙ (so.each k own.0 (omega (arith, within, so.many)) is).values in
-    let rows : rows_of (columns_in coded) ≡ rows_of t = rows_alike coded.rows made t.columns wide same ∙ ap (λ n. rows_in_columns n t.columns) number in
-    (record {
-      of_table = record {
-        valid = of.valid;
-        columns = record {
-          width = long ∙ so.many;
-          counts = All-from_get_or (Counts coded.rows) made no_values
-              (λ k lt. ap length (same k lt) ∙ of.columns.counts k no_values (omega (arith, lt, wide)) ∙ sym number);
-          rows = subst (AreRows table.schema.fields) (sym rows) of.columns.rows;
+    let within : k < length all = omega (arith, lt, long) in
+    let own = some_at all k within in
+    let is : own.0 ≡ get_or all k own.0 = sym (get_or_from_slice_get all k own.0 own.0 own.1) in
+    ap (λ (l : Listed). l.values) (sym (decoded_at coded k own.0 no_values within is)) ∙ (so.each k own.0 (omega (arith, within, so.many)) is).values in
+    let rows : rows_of (columns_in coded) ≡ rows_of t = rows_alike coded.rows made t.columns wide same ∙ ap (λ n. rows_in_columns n t.columns) number in (
+      record {
+        of_table = record {
+          valid = of.valid;
+          columns = record {
+            width = long ∙ so.many;
+            counts = All-from_get_or (Counts coded.rows) made no_values
+                (λ k lt. ap length (same k lt) ∙ of.columns.counts k no_values (omega (arith, lt, wide)) ∙ sym number);
+            rows = subst (AreRows table.schema.fields) (sym rows) of.columns.rows;
+          };
         };
-      };
-      each = λ at c lt is. (so.each at c (omega (arith, lt, so.many)) is).coding;
-      kinds = λ at c lt is. (so.each at c (omega (arith, lt, so.many)) is).kind;
-    }, rows)
+        each = λ at c lt is. (so.each at c (omega (arith, lt, so.many)) is).coding;
+        kinds = λ at c lt is. (so.each at c (omega (arith, lt, so.many)) is).kind;
+      },
+      rows,
+    )
 
 -- ---- the numbers of a column's rows
 

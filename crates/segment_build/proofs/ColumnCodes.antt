@@ -1,25 +1,23 @@
 -- The ids of the columns of a table, and their sections.
-use Rattle.std.proofs.Common.{◌≡◌, ◌<◌, ◌≤◌, ◌+◌, ◌∙◌, Bool, true, false, ℕ, List, Some, length, get_or, slice_get, sym, ap, subst, arith}
+use Rattle.std.proofs.Common.{◌≡◌, ◌<◌, ◌≤◌, ◌+◌, ◌∙◌, Bool, true, false, ℕ, List, length, get_or, sym, ap, subst, arith}
 use Rattle.values.specs.declared.value.Value.{Value}
-use Rattle.values.specs.Columns.{Counts, Listed, ListedColumns, rows_of}
-use Rattle.values.proofs.RowLemmas.{length-rows}
+use Rattle.values.specs.Columns.{ListedColumns, rows_of}
 use Rattle.table_schema.specs.ValidTable.{IsValidTable}
 use Rattle.table_schema.specs.declared.field.Field.{Field}
 use Rattle.table_schema.specs.declared.table.Table.{Table}
-use Rattle.value_ids.specs.Dictionary.{Distinct, distinct, most_values}
-use Rattle.segment_file.specs.Image.{count_of, kind_or, values_in}
+use Rattle.value_ids.specs.Dictionary.{Distinct, most_values}
+use Rattle.segment_file.specs.Image.{count_of}
 use Rattle.segment_file.specs.Ordered.{ordered}
 use Rattle.segment_build.specs.Fitting.{AreColumns}
 use Rattle.segment_build.specs.declared.indexes.Indexes.{Indexes}
 use Rattle.segment_build.specs.declared.coding.RowOrder.{RowOrder}
-use Rattle.segment_build.specs.Arranging.{IsCoded, Orders, arranged, places_in}
-use Rattle.segment_build.specs.Sections.{Made, ids_in, made_of, with_column}
-use Rattle.segment_build.proofs.Arranged.{ids_arranged, sorted_up}
-use Rattle.segment_build.proofs.ColumnLemmas.{column_values, made_more}
-use Rattle.segment_build.proofs.Stable.{ids_below, ids_count, ordered_count, same_distinct}
+use Rattle.segment_build.specs.Arranging.{IsCoded, Orders}
+use Rattle.segment_build.specs.Sections.{Made, made_of, with_column}
+use Rattle.segment_build.proofs.Arranged.{sorted_up}
+use Rattle.segment_build.proofs.ColumnLemmas.{made_more}
+use Rattle.segment_build.proofs.Stable.{ids_below, ids_count, ordered_count}
 use Rattle.table_schema.specs.NeedIds.{is_the_number}
 use Rattle.value_ids.specs.Coding.{AreBelow}
-use Rattle.std.proofs.lemmas.Option.{slice_get-get_or}
 use Rattle.std.specs.List.Sorted.{IsNonDecreasing}
 
 -- the rows of a table in their order

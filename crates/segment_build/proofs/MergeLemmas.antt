@@ -1,5 +1,5 @@
 -- The merged documents of trees, one tree after the other.
-use Rattle.std.proofs.Common.{◌≡◌, ◌∙◌, ◌<◌, ◌+◌, ◌⊎◌, inl, inr, Err, ℕ, zero, suc, List, [], ◌∷◌, ◌++◌, length, length-drop, drop, take, get_or, sym, ap, subst, arith, refl}
+use Rattle.std.proofs.Common.{◌≡◌, ◌∙◌, ◌<◌, ◌+◌, inl, inr, Err, ℕ, zero, suc, List, [], ◌∷◌, ◌++◌, length, length-drop, drop, take, get_or, sym, ap, subst, arith}
 use Rattle.std.proofs.lemmas.Slice.Zip.{AllZip-long}
 use Rattle.std.specs.List.{All, AllZip}
 use Rattle.values.specs.declared.value.Value.{Value}

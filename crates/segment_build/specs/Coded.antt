@@ -1,7 +1,6 @@
 -- Columns of rows by the ids of their values.
 use Rattle.std.specs.Prelude.{◌≡◌, ◌<◌, ◌≤◌, ◌⊎◌, ℕ, ℤ, List, [], true, false, length, map, get_or, Option, Some, None}
 use Rattle.std.specs.List.Sorted.{IsNonDecreasing}
-use Rattle.data_types.specs.declared.kind.FieldKind.{FieldKind}
 use Rattle.values.specs.declared.value.Value.{Value}
 use Rattle.values.specs.declared.value.Value.TheVariants.{Text}
 use Rattle.values.specs.Columns.{Listed, ListedColumns}

@@ -1,5 +1,5 @@
 -- The documents of a segment's trees as they are merged, before the trees are built.
-use Rattle.std.specs.Prelude.{◌≡◌, ◌≤◌, ◌<◌, ◌^◌, ℕ, List, length, Result, IfOk, OnOk, IsErrOf}
+use Rattle.std.specs.Prelude.{◌≡◌, ◌≤◌, ℕ, List, length, Result, IfOk, OnOk, IsErrOf}
 use Rattle.std.specs.List.{AllZip}
 use Rattle.agg_laws.specs.Merged.{weights}
 use Rattle.agg_laws.specs.Numbers.{most_stored}

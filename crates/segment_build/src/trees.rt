@@ -107,17 +107,16 @@ fn merged_of_tree(
 }
 
 // The ids of the rows in these columns.
-fn split_ids(
-    alloc: Global,
-    coded: &CodedColumns,
-    split: &[u16],
-) -> Result<Seq<Seq<u32>>, NoMemory>
+fn split_ids(alloc: Global, coded: &CodedColumns, split: &[u16]) -> Result<Seq<Seq<u32>>, NoMemory>
     requires { All (λ column. column < length coded.now.columns.items) split.now }
     ensures { IfOk result (λ ids. ids ≡ map (ids_at coded.now) split.now) }
 {
     let mut all = Vec::with_capacity(alloc, split.len())?;
     for column in split {
-        let ids = coded.columns[*column as usize].ids.as_slice().to_vec(alloc)?;
+        let ids = coded.columns[*column as usize]
+            .ids
+            .as_slice()
+            .to_vec(alloc)?;
         all.push(Seq::from_vec(ids))?;
     }
     Ok(Seq::from_vec(all))

@@ -19,7 +19,7 @@ use Rattle.segment_file.specs.declared.part.Part.{Part}
 use Rattle.segment_file.specs.declared.part.Part.TheVariants as parts
 use Rattle.segment_file.specs.Front.{Front, extents_of}
 use Rattle.segment_file.specs.Image.{image}
-use Rattle.segment_file.specs.Names.{IsSegmentName, IsSegmentOf}
+use Rattle.segment_file.specs.Names.{IsSegmentName}
 use Rattle.segment_file.specs.Parts.{sections_of}
 use Rattle.segment_file.specs.Rules.{FailsAt, HasFront}
 use Rattle.segment_head.specs.Heads.{AreIn, IsHead, Seen, bytes_in, place_in}
@@ -153,10 +153,3 @@ pub record ComparesImage (table : Table) (name file : List ℕ) (front : Front)
       → IsUnlike table name file old.held front rows p)
   pub only_reads : OnlyReads (IsErrOf result ReadFault) old new
   pub log : LogsFile file old.log new.log
-
--- the front of a file of the table, and columns of rows of it
-pub record MayCompare (table : Table) (name : List ℕ) (head : FileHead) (t : ListedColumns)
-    : Type 0 where
-  pub asked : IsSegmentOf table name
-  pub read : IsSomeHead table name head
-  pub fields : AreOfFields table t

@@ -86,8 +86,8 @@ fn read_column<S: Shelf>(
     }
 }
 
-// The values of these ids, as a column.
-fn column_of(
+/// The values of these ids, as a column.
+pub(crate) fn column_of(
     alloc: Global,
     kind: FieldKind,
     dictionary: &Dictionary,

@@ -1,6 +1,6 @@
 -- Whether the file of a stored segment is the image of rows, or spells rows. What the check of any
 -- file finds comes with it, and that a value is no text but one in UTF-8.
-use Rattle.std.specs.Prelude.{ℕ, List, Some}
+use Rattle.std.specs.Prelude.{◌≡◌, ℕ, List, Some, length}
 use Rattle.outside.specs.Files.{Files, bytes_of}
 use Rattle.values.specs.declared.value.Value.{Value}
 use Rattle.table_schema.specs.declared.table.Table.{Table}
@@ -15,6 +15,11 @@ pub use Rattle.segment_check.specs.Found.{Found, IsFound}
 abbrev pub IsStoredImage : Table → Files → List ℕ → List (List Value) → Type 0
 IsStoredImage table files name rows = IsImageOf table name (bytes_of (Some files)
     (file_of name)) rows
+
+-- it is the image of so many rows
+abbrev pub IsStoredCount : Table → Files → List ℕ → ℕ → Type 0
+IsStoredCount table files name count = (rows : List (List Value))
+    × IsStoredImage table files name rows × (count ≡ length rows)
 
 -- it is the image of no rows: this part is the first that is wrong
 abbrev pub IsNoStoredImage : Table → Files → List ℕ → Part → Type 0

@@ -2,12 +2,12 @@
 
 ghost use Rattle.outside.specs.Seen.{seen};
 ghost use Rattle.segment_file.specs.Names.{IsSegmentOf};
-ghost use Rattle.table_store.specs.Calls.{ChecksSegment, SpellsSegment};
+ghost use Rattle.table_store.specs.Calls.{ChecksSegment, CountsSegment, SpellsSegment};
 ghost use Rattle.table_store.specs.Segments.{HasSegment};
 
 use crate::{StoreFault, holds_segment};
 use outside::Depot;
-use segment_check::{check_columns, spell_columns};
+use segment_check::{check_columns, count_image, spell_columns};
 use segment_file::{HeadFault, segment_file_name};
 use std::alloc::Global;
 use table_schema::Table;
@@ -48,6 +48,47 @@ fn check_there<D: Depot>(
     let file = segment_file_name(alloc, name)?;
     match check_columns(alloc, depot, file.as_str(), name, table) {
         Ok(columns) => Ok(columns),
+        Err(HeadFault::NotASegment(part)) => Err(StoreFault::NotASegment(part)),
+        Err(HeadFault::ReadFault) => Err(StoreFault::ReadFault),
+        Err(HeadFault::NoMemory) => Err(StoreFault::NoMemory),
+    }
+}
+
+/// How many rows the segment of this name has, or the part of its file that is wrong. The rows are
+/// not made, and the file of no other segment is opened.
+pub fn count_segment<D: Depot>(
+    alloc: Global,
+    depot: &mut D,
+    table: &Table,
+    name: &str,
+) -> Result<u32, StoreFault>
+    requires { IsSegmentOf table.now name.now }
+    ensures { CountsSegment table.now name.now
+        (seen D.Shelf depot.old) (seen D.Shelf depot.new) result }
+{
+    match holds_segment(alloc, depot, name) {
+        Ok(true) => {}
+        Ok(false) => return Err(StoreFault::NoSegment),
+        Err(fault) => return Err(fault),
+    }
+    count_there(alloc, depot, table, name)
+}
+
+// The same of a segment that is there.
+fn count_there<D: Depot>(
+    alloc: Global,
+    depot: &mut D,
+    table: &Table,
+    name: &str,
+) -> Result<u32, StoreFault>
+    requires asked { IsSegmentOf table.now name.now }
+    requires there { HasSegment (D.held depot.old) name.now }
+    ensures { CountsSegment table.now name.now
+        (seen D.Shelf depot.old) (seen D.Shelf depot.new) result }
+{
+    let file = segment_file_name(alloc, name)?;
+    match count_image(alloc, depot, file.as_str(), name, table) {
+        Ok(rows) => Ok(rows),
         Err(HeadFault::NotASegment(part)) => Err(StoreFault::NotASegment(part)),
         Err(HeadFault::ReadFault) => Err(StoreFault::ReadFault),
         Err(HeadFault::NoMemory) => Err(StoreFault::NoMemory),

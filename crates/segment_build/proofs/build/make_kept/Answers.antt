@@ -6,7 +6,6 @@ use Rattle.segment_file.specs.Front.{front_bytes}
 use Rattle.segment_file.specs.Image.{section_of, sections_of_rows}
 use Rattle.segment_file.specs.Parts.{sections_of}
 use Rattle.segment_build.specs.Made.{each_bytes}
-use Rattle.segment_build.specs.Merging.{IsKeptFile}
 use Rattle.segment_build.specs.Sections.{in_order}
 use Rattle.segment_build.proofs.Built.{built_image, built_short}
 use Rattle.segment_build.proofs.ColumnCodes.{in_rows}

@@ -1,9 +1,6 @@
-use Rattle.std.proofs.Common.{◌≡◌, ◌∙◌, Err, length, map, ap, subst}
-use Rattle.segment_file.specs.Image.{front_of, sections_of_rows}
-use Rattle.segment_file.specs.Ordered.{ordered}
+use Rattle.std.proofs.Common.{◌∙◌, Err, subst}
 use Rattle.segment_build.specs.declared.made.MadeFile.{MadeFile}
 use Rattle.segment_build.specs.Growing.{IsBuilt}
-use Rattle.segment_build.specs.Made.{each_bytes}
 use Rattle.segment_build.proofs.MergeLemmas.{built_err}
 use Rattle.segment_build.proofs.lengths.section_lengths.Goals as goal
 

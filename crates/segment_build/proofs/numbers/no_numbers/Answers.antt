@@ -1,5 +1,4 @@
-use Rattle.std.proofs.Common.{◌≡◌, ◌∙◌, ap, arith, map}
-use Rattle.segment_build.specs.Coded.{columns_in}
+use Rattle.std.proofs.Common.{ap, arith, map}
 use Rattle.segment_build.proofs.NumberLemmas.{empty_lists, lists_more}
 use Rattle.segment_build.proofs.numbers.no_numbers.Goals as goal
 

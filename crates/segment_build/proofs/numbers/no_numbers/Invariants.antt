@@ -1,4 +1,4 @@
-use Rattle.std.proofs.Common.{◌≡◌, map, replicate, [], ℤ, List}
+use Rattle.std.proofs.Common.{◌≡◌, map, replicate, []}
 use Rattle.segment_build.proofs.numbers.no_numbers.Given as goal
 
 -- so many empty lists

@@ -1,1 +1,0 @@
-use Rattle.segment_build.proofs.numbers.pair_numbers.Goals as goal

@@ -1,4 +1,4 @@
-use Rattle.std.proofs.Common.{◌≡◌, ◌∙◌, ◌<◌, length, sym, ap, subst, arith}
+use Rattle.std.proofs.Common.{◌≡◌, ◌∙◌, ◌<◌, length, ap, arith}
 use Rattle.values.specs.Columns.{rows_of}
 use Rattle.segment_file.specs.Ordered.{ordered}
 use Rattle.segment_build.specs.Arranging.{arranged}
