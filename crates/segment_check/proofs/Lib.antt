@@ -9,3 +9,4 @@ pub mod OnePart
 pub mod SaidRows
 pub mod ImageOrPart
 pub mod Finds
+pub mod SpelledText

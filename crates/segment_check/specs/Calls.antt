@@ -29,12 +29,12 @@ pub record ChecksImage {A : Type 0} (rows_in : A → List (List Value)) (table :
   pub only_reads : OnlyReads (IsErrOf result ReadFault) old new
   pub log : LogsFile file old.log new.log
 
--- the head and the ids of a file were looked at, and no other file: it spells the rows that are
--- answered, or none
-pub record SpellsFile {A : Type 0} (rows_in : A → List (List Value)) (table : Table)
+-- the head and the ids of a file were looked at, and no other file: it spells rows of which the
+-- answer is, or none
+pub record SpellsFile {A : Type 0} (IsOf : A → List (List Value) → Type 0) (table : Table)
     (name file : List ℕ) (old new : Seen) (result : Result A HeadFault) : Type 0 where
   pub spells : IfOk result (λ a. OfBytes old.held file (λ bytes.
-      Spells table name bytes (rows_in a)))
+      (rows : List (List Value)) × Spells table name bytes rows × IsOf a rows))
   pub refused : IfErr result (λ fault. (p : Part) → fault ≡ NotASegment p
       → OfBytes old.held file (λ bytes. SpellsNone table name bytes p))
   pub only_reads : OnlyReads (IsErrOf result ReadFault) old new
