@@ -1,5 +1,5 @@
 -- Of a file that keeps the rules of heads and is no image just one part is wrong.
-use Rattle.std.proofs.Common.{◌≡◌, ◌∙◌, ◌<◌, ℕ, zero, suc, All, List, [], ◌∷◌, length, take, slice_get, Some, true, false, nat_lt, refl, sym, ap, subst, arith, inl, inr}
+use Rattle.std.proofs.Common.{◌≡◌, ◌∙◌, ◌<◌, ◌≤◌, ℕ, zero, suc, All, List, [], ◌∷◌, length, take, slice_get, Some, true, false, nat_lt, refl, sym, ap, subst, arith, inl, inr, ◌⊎◌}
 use Rattle.std.proofs.lemmas.Bool.{ltb-false, ltb-true}
 use Rattle.std.proofs.lemmas.List.Elements.{All-get_or}
 use Rattle.std.proofs.lemmas.Option.{get_or_from_slice_get, slice_get_within}
@@ -19,6 +19,7 @@ use Rattle.segment_file.specs.Trees.{TreeFits}
 use Rattle.segment_file.proofs.Counts.{all_at}
 use Rattle.segment_file.proofs.RuleLaws.{fails_not_all, fronts_one, spelled_one}
 use Rattle.segment_build.specs.Compared.{DifferAt}
+use Rattle.segment_build.specs.Growing.{IsTooLarge, TreesFit}
 use Rattle.segment_check.specs.Checked.{FailsBytes, FailsIds, FailsImageAt, FailsTree, part_at}
 use Rattle.segment_check.specs.Laws.{FailsOnce}
 

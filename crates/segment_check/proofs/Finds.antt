@@ -1,12 +1,14 @@
 -- The check of a file finds one thing, and no other.
-use Rattle.std.proofs.Common.{◌≡◌, ◌∙◌, ℕ, List, Ok, Err, sym, subst, ap, lit<}
+use Rattle.std.proofs.Common.{◌≡◌, ◌∙◌, ℕ, List, Result, Ok, Err, sym, subst, ap, lit<}
 use Rattle.values.specs.declared.value.Value.{Value}
 use Rattle.table_schema.specs.declared.table.Table.{Table}
 use Rattle.table_schema.specs.ValidTable.{IsValidTable}
+use Rattle.segment_file.specs.Image.{image}
 use Rattle.segment_file.specs.Names.{IsSegmentName}
 use Rattle.segment_file.specs.declared.part.Part.{Part}
 use Rattle.segment_file.proofs.ImageTells.{images_tell}
 use Rattle.segment_check.specs.Checked.{IsImageOf, IsNoImage}
+use Rattle.segment_check.specs.Found.{Found, IsFound}
 use Rattle.segment_check.specs.Laws.{FindsOne, FindsSome}
 use Rattle.segment_check.proofs.ImageOrPart.{image_or_part}
 use Rattle.segment_check.proofs.ImagesPass.{images_pass}

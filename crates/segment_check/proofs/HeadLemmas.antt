@@ -18,7 +18,7 @@ use Rattle.segment_file.specs.Front.{Front, extents_of, front_size, head_end}
 use Rattle.segment_file.specs.declared.section.Section.{Section}
 use Rattle.segment_file.specs.declared.part.Part.{Part}
 use Rattle.segment_file.specs.declared.part.Part.TheVariants as parts
-use Rattle.segment_file.specs.Columns.{kind_or}
+use Rattle.segment_file.specs.Columns.{kind_at, kind_or}
 use Rattle.segment_file.specs.Parts.{is_same, sections_of}
 use Rattle.segment_file.specs.Reading.{IsFrontOf}
 use Rattle.segment_file.specs.Rules.{FailsAt, HasFront}

@@ -1,5 +1,5 @@
 -- Of a file that is the image of no rows some part is wrong.
-use Rattle.std.proofs.Common.{◌≡◌, ◌∙◌, ◌<◌, ◌≤◌, ◌+◌, ℕ, zero, suc, All, List, [], ◌∷◌, ◌++◌, length, get_or, slice_get, take, append-nil, append_assoc, refl, sym, ap, subst, arith, inl, inr, Some}
+use Rattle.std.proofs.Common.{◌≡◌, ◌∙◌, ◌<◌, ◌≤◌, ◌+◌, ◌-◌, ℕ, zero, suc, All, List, [], ◌∷◌, ◌++◌, length, get_or, slice_get, take, append-nil, append_assoc, refl, sym, ap, subst, arith, inl, inr, Some}
 use Rattle.std.proofs.lemmas.List.{take_all}
 use Rattle.std.proofs.lemmas.List.Elements.{All-head, All-nil, All-push, All-tail}
 use Rattle.std.proofs.lemmas.Option.{slice_get-get_or}
@@ -11,6 +11,7 @@ use Rattle.table_schema.specs.ValidTable.{IsValidTable}
 use Rattle.value_ids.specs.Dictionary.{Distinct}
 use Rattle.segment_file.specs.declared.part.Part.{Part}
 use Rattle.segment_file.specs.declared.part.Part.TheVariants as parts
+use Rattle.segment_file.specs.Bounds.{bounds_bytes, bounds_of}
 use Rattle.segment_file.specs.Columns.{kind_at}
 use Rattle.segment_file.specs.Front.{Extent, Front, extents_of}
 use Rattle.segment_file.specs.Image.{CanHold, image}

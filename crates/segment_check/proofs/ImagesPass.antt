@@ -1,23 +1,26 @@
 -- No part of an image is wrong.
-use Rattle.std.proofs.Common.{◌≡◌, ◌∙◌, ℕ, List, length, map, slice_get, Some, All, sym, ap, subst, inl, inr}
+use Rattle.std.proofs.Common.{◌≡◌, ◌∙◌, ℕ, List, length, map, slice_get, Option, Some, All, refl, sym, ap, subst, inl, inr}
 use Rattle.std.proofs.lemmas.List.Elements.{All-get_or}
 use Rattle.std.proofs.lemmas.Option.{get_or_from_slice_get, slice_get_within}
 use Rattle.values.specs.declared.value.Value.{Value}
+use Rattle.table_schema.specs.declared.settings.TreeSetting.{TreeSetting}
 use Rattle.table_schema.specs.declared.table.Table.{Table}
 use Rattle.table_schema.specs.ValidTable.{IsValidTable}
+use Rattle.value_ids.specs.Dictionary.{Distinct}
 use Rattle.segment_file.specs.declared.part.Part.{Part}
 use Rattle.segment_file.specs.Front.{Front}
 use Rattle.segment_file.specs.Image.{CanHold, dictionary_of, file_of_rows, front_of, image}
 use Rattle.segment_file.specs.Names.{IsSegmentName}
 use Rattle.segment_file.specs.Ordered.{ordered}
 use Rattle.segment_file.specs.Parts.{columns_of}
+use Rattle.segment_file.specs.Rules.{KeepsAll}
 use Rattle.segment_file.specs.Spelled.{HasIds, SpellsRows}
 use Rattle.segment_file.specs.Trees.{TreeFits}
 use Rattle.segment_file.proofs.Counts.{all_at}
 use Rattle.segment_file.proofs.ImageKeeps.{image_keeps}
 use Rattle.segment_file.proofs.ImageSpells.{image_spells}
 use Rattle.segment_file.proofs.RuleLaws.{fails_not_all}
-use Rattle.segment_check.specs.Checked.{FailsBytes, FailsIds, FailsTree, IsNoImage}
+use Rattle.segment_check.specs.Checked.{FailsBytes, FailsIds, FailsImageAt, FailsTree, IsNoImage}
 use Rattle.segment_check.specs.Laws.{ImagesPass}
 use Rattle.segment_check.proofs.Again.{ordered_again}
 

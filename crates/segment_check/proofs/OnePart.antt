@@ -15,7 +15,7 @@ use Rattle.segment_file.specs.Rules.{AreSpelled, FailsAt, FailsBounds, FailsDict
 use Rattle.segment_file.proofs.Counts.{all_at}
 use Rattle.segment_file.proofs.RuleLaws.{fronts_one, spelled_one}
 use Rattle.segment_file.proofs.Tails.{zip_at}
-use Rattle.segment_check.specs.Checked.{IsNoImage}
+use Rattle.segment_check.specs.Checked.{FailsImageAt, IsNoImage}
 use Rattle.segment_check.specs.Laws.{OnePart}
 use Rattle.segment_check.proofs.FailsOnce.{fails_once, neither_less}
 

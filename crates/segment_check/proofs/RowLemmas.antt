@@ -1,9 +1,9 @@
 -- The rows of columns that were read, and the rows that the bytes of a file spell.
-use Rattle.std.proofs.Common.{◌≡◌, ◌∙◌, ◌<◌, ◌+◌, ◌&&◌, ℕ, zero, suc, Bool, true, false, cond, All, List, [], ◌∷◌, length, map, get_or, slice_get, Option, Some, refl, sym, ap, subst, arith}
+use Rattle.std.proofs.Common.{◌≡◌, ◌∙◌, ◌<◌, ◌≤◌, ◌+◌, ◌&&◌, ℕ, zero, suc, Bool, true, false, cond, All, List, [], ◌∷◌, length, map, get_or, replicate, slice_get, Option, Some, None, IfSome, refl, sym, ap, subst, arith}
 use Rattle.std.specs.Prelude.{pos, option_map}
 use Rattle.std.specs.List.{AllZip, find, range_with_len}
 use Rattle.std.specs.Option.{option_map_or}
-use Rattle.std.proofs.lemmas.List.{get_or-map, length-map, same_lists}
+use Rattle.std.proofs.lemmas.List.{get_or-map, get_or_default, length-map, same_lists}
 use Rattle.std.proofs.lemmas.List.Elements.{All-cons, All-get_or, All-head, All-nil, All-replicate, All-tail}
 use Rattle.std.proofs.lemmas.List.FromFn.{get_or-map-range_with_len, length-range_with_len}
 use Rattle.std.proofs.lemmas.Option.{get_or_from_slice_get, slice_get-get_or, slice_get-map}
@@ -20,15 +20,16 @@ use Rattle.bit_column.specs.Column.{ids_between, width_of}
 use Rattle.bit_column.specs.Sections.{Readable}
 use Rattle.table_schema.specs.declared.field.Field.{Field}
 use Rattle.table_schema.specs.declared.table.Table.{Table}
-use Rattle.table_schema.specs.ValidTable.{IsRow, is_row}
+use Rattle.table_schema.specs.ValidTable.{AreRows, IsRow, is_row, most_rows}
 use Rattle.segment_file.specs.declared.part.Part.{Part}
 use Rattle.segment_file.specs.declared.part.Part.TheVariants as parts
 use Rattle.segment_file.specs.declared.section.Section.{Section}
 use Rattle.segment_file.specs.Columns.{kind_at, kind_or}
 use Rattle.segment_file.specs.Front.{Extent, Front, extents_of}
 use Rattle.segment_file.specs.Parts.{columns_of, is_same}
-use Rattle.segment_file.specs.Rules.{IsSpelled, KeepsAll, dictionary_in, heads_in, section_bytes}
-use Rattle.segment_file.specs.Spelled.{HasIds, column_said, forward_in, part_in, rows_said, values_said}
+use Rattle.segment_file.specs.Reading.{count_at}
+use Rattle.segment_file.specs.Rules.{HasFront, IsSpelled, KeepsAll, dictionary_in, heads_in, section_bytes}
+use Rattle.segment_file.specs.Spelled.{HasIds, column_said, forward_in, ids_said, part_in, rows_said, values_said}
 use Rattle.segment_file.proofs.RuleLaws.{fronts_one}
 use Rattle.segment_file.proofs.Tails.{zip_at}
 use Rattle.segment_head.specs.Heads.{IsHead, Seen, bytes_in, place_in, placed}

@@ -1,5 +1,5 @@
 -- The rows that a file spells are rows that a segment of the table may have.
-use Rattle.std.proofs.Common.{◌≡◌, ◌∙◌, ◌<◌, ◌+◌, ◌-◌, false, ℕ, All, List, [], length, map, get_or, sym, subst, arith}
+use Rattle.std.proofs.Common.{◌≡◌, ◌∙◌, ◌<◌, ◌+◌, ◌-◌, false, ℕ, All, List, [], length, map, get_or, sym, ap, subst, arith}
 use Rattle.std.proofs.lemmas.List.{get_or-map, length-map, same_lists}
 use Rattle.std.proofs.lemmas.List.Elements.{All-map}
 use Rattle.std.proofs.lemmas.List.FromFn.{get_or-map-range_with_len, length-range_with_len}
@@ -9,6 +9,7 @@ use Rattle.std.specs.List.{range_with_len}
 use Rattle.values.specs.declared.value.Value.{Value}
 use Rattle.values.specs.Columns.{Counts, Listed, ListedColumns, row_of, rows_of}
 use Rattle.values.proofs.RowLemmas.{length-rows, row-at}
+use Rattle.value_ids.specs.Coding.{AreBelow}
 use Rattle.value_ids.specs.Dictionary.{Distinct, Fits, IsUnicode}
 use Rattle.bit_column.proofs.Ranges.{pieces-long}
 use Rattle.table_schema.specs.declared.table.Table.{Table}

@@ -1,6 +1,6 @@
 -- A file that has the bytes of an image from the first on is that image.
-use Rattle.std.proofs.Common.{◌≡◌, ◌∙◌, ◌<◌, ◌≤◌, ◌+◌, ◌&&◌, ◌^◌, ℕ, Bool, true, false, cond, All, List, ◌∷◌, length, take, drop, get_or, Option, Some, None, IfSome, nat_le, nat_lt, leb-true, Ok, Err, refl, sym, ap, subst, arith, inl, inr}
-use Rattle.std.specs.List.{find}
+use Rattle.std.proofs.Common.{◌≡◌, ◌≢◌, ◌∙◌, ◌<◌, ◌≤◌, ◌+◌, ◌&&◌, ◌^◌, ℕ, Bool, true, false, cond, All, List, [], ◌∷◌, ◌++◌, length, map, take, drop, sum, get_or, slice_get, Option, Some, None, IfSome, nat_le, nat_lt, leb-true, Result, Ok, Err, refl, sym, ap, subst, arith, inl, inr, ◌⊎◌}
+use Rattle.std.specs.List.{find, range_with_len}
 use Rattle.std.specs.Option.{option_map_or}
 use Rattle.std.proofs.lemmas.Bool.{le-ltb}
 use Rattle.std.proofs.lemmas.List.{take-take, take_all}
@@ -12,10 +12,11 @@ use Rattle.table_schema.specs.ValidTable.{IsValidTable}
 use Rattle.value_ids.specs.Dictionary.{Distinct}
 use Rattle.segment_file.specs.declared.part.Part.{Part}
 use Rattle.segment_file.specs.declared.part.Part.TheVariants as parts
-use Rattle.segment_file.specs.Front.{Extent, Front, extents_from, file_end, front_size}
-use Rattle.segment_file.specs.Image.{CanHold, front_of, image}
+use Rattle.segment_file.specs.Front.{Extent, Front, extents_from, extents_of, file_end, front_bytes, front_size}
+use Rattle.segment_file.specs.Image.{CanHold, dictionary_of, front_of, image}
 use Rattle.segment_file.specs.Names.{IsSegmentName}
 use Rattle.segment_file.specs.Ordered.{ordered}
+use Rattle.segment_file.specs.Parts.{columns_of}
 use Rattle.segment_file.specs.Rules.{FailsAt, HasFront, KeepsAll}
 use Rattle.segment_file.specs.Spelled.{HasIds, SpellsRows, rows_said}
 use Rattle.segment_file.proofs.Fronts.{is_said, said}
@@ -23,13 +24,14 @@ use Rattle.segment_file.proofs.ImageKeeps.{image_keeps}
 use Rattle.segment_file.proofs.ImageSizes.{columns_all}
 use Rattle.segment_file.proofs.ImageSpells.{image_spells}
 use Rattle.segment_file.proofs.Loops.{extents_next}
+use Rattle.segment_file.proofs.RuleLaws.{fails_not_all, fronts_one, spelled_one}
 use Rattle.outside.specs.Seen.{Seen}
 use Rattle.segment_build.specs.declared.fault.CompareFault.TheVariants.{Differs}
 use Rattle.segment_build.specs.Compared.{Compared, Compares, DifferAt}
-use Rattle.segment_build.specs.Growing.{TreesFit}
+use Rattle.segment_build.specs.Growing.{IsTooLarge, TreesFit}
 use Rattle.segment_check.specs.Calls.{OfBytes}
-use Rattle.segment_check.specs.Checked.{FailsIds, IsImageOf, IsNoImage, Spells, SpellsNone, has_byte, part_at}
-use Rattle.segment_check.specs.Reading.{AreColumns, AreOfFields, FailsColumn, IsFileHead, IsUnlike}
+use Rattle.segment_check.specs.Checked.{FailsBytes, FailsIds, FailsImageAt, FailsTree, IsImageOf, IsNoImage, Spells, SpellsNone, has_byte, part_at}
+use Rattle.segment_check.specs.Reading.{AreColumns, AreOfFields, FailsColumn, HasIdsOf, IsFileHead, IsUnlike}
 use Rattle.segment_check.specs.declared.head.FileHead.{FileHead}
 use Rattle.segment_check.proofs.RowLemmas.{ids-back, ids-there, keeps, no_distinct, own-at, rows-there}
 

@@ -1,5 +1,5 @@
 -- What is read of a file, a part after the other (inside the crate alone).
-use Rattle.std.specs.Prelude.{◌≡◌, ◌<◌, ◌⊎◌, ℕ, List, [], length, take, get_or, slice_get, Option, Some, IfSome, false, Result, IfErr, IfOk, IsErrOf, OnOk}
+use Rattle.std.specs.Prelude.{◌≡◌, ◌<◌, ◌⊎◌, ℕ, pos, List, [], length, take, get_or, slice_get, Option, Some, IfSome, false, Result, IfErr, IfOk, IsErrOf, OnOk}
 use Rattle.std.specs.List.{All}
 use Rattle.outside.specs.Files.{Files}
 use Rattle.outside.specs.Seen as outside
@@ -7,11 +7,12 @@ use Rattle.outside.specs.Seen.{OnlyReads}
 use Rattle.values.specs.Columns.{Counts, Listed, ListedColumns, rows_of}
 use Rattle.values.specs.declared.value.Value.{Value}
 use Rattle.value_ids.specs.Coding.{AreBelow, values_at}
-use Rattle.value_ids.specs.Dictionary.{Distinct, IsUnicode}
+use Rattle.value_ids.specs.Dictionary.{Distinct, IsDictionary, IsUnicode}
 use Rattle.bit_column.specs.Column.{ids_between, width_of}
 use Rattle.bit_column.specs.Sections.{Readable}
 use Rattle.table_schema.specs.declared.table.Table.{Table}
 use Rattle.table_schema.specs.ValidTable.{AreRows, IsValidTable}
+use Rattle.segment_file.specs.Columns.{kind_at}
 use Rattle.segment_file.specs.declared.fault.HeadFault.{HeadFault}
 use Rattle.segment_file.specs.declared.fault.HeadFault.TheVariants.{NotASegment, ReadFault}
 use Rattle.segment_file.specs.declared.part.Part.{Part}

@@ -1,8 +1,9 @@
-use Rattle.std.proofs.Common.{◌≡◌, ◌∙◌, ◌<◌, ◌+◌, ℕ, length, IfSome, refl, sym, ap, subst, arith}
+use Rattle.std.proofs.Common.{◌≡◌, ◌∙◌, ◌<◌, ◌≤◌, ◌+◌, ℕ, List, length, slice_get, Some, IfSome, refl, sym, ap, subst, arith}
 use Rattle.std.specs.List.{All}
 use Rattle.outside.specs.Seen.{Seen, seen}
 use Rattle.outside.proofs.SeenLemmas.{reads_after, reads_none}
 use Rattle.values.specs.Columns.{Counts, ListedColumns}
+use Rattle.value_ids.specs.Dictionary.{Distinct}
 use Rattle.segment_file.specs.declared.part.Part.TheVariants as parts
 use Rattle.segment_file.proofs.Faults.{growth_bad, growth_ok, growth_reads, reads_ended, reads_err, reads_well}
 use Rattle.segment_build.specs.FileReads.{file_then, file_unread}

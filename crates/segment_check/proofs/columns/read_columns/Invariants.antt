@@ -1,5 +1,7 @@
-use Rattle.std.proofs.Common.{ℕ, List}
+use Rattle.std.proofs.Common.{◌≡◌, ℕ, List}
+use Rattle.std.specs.List.{All}
 use Rattle.outside.specs.Seen.{OnlyReads, seen}
+use Rattle.values.specs.Columns.{Counts}
 use Rattle.segment_build.specs.FileReads.{LogsFile}
 use Rattle.segment_head.specs.Heads.{AreIn}
 use Rattle.segment_check.specs.Reading.{AreColumns}

@@ -1,4 +1,4 @@
-use Rattle.std.proofs.Common.{◌≡◌, length, ap, arith, inl, refl}
+use Rattle.std.proofs.Common.{◌≡◌, ◌≤◌, length, ap, arith, inl, refl}
 use Rattle.outside.specs.Seen.{Seen, seen}
 use Rattle.outside.proofs.SeenLemmas.{reads_none}
 use Rattle.segment_file.proofs.Faults.{reads_other}

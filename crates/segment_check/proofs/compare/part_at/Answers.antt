@@ -1,4 +1,4 @@
-use Rattle.std.proofs.Common.{◌<◌, ◌≤◌, ◌+◌, length, get_or, arith}
+use Rattle.std.proofs.Common.{◌≡◌, ◌<◌, ◌≤◌, ◌+◌, length, get_or, arith}
 use Rattle.segment_file.specs.declared.part.Part.TheVariants.{Head}
 use Rattle.segment_file.proofs.Loops.{offset_step}
 use Rattle.segment_check.proofs.Sameness.{part_step}

@@ -1,4 +1,4 @@
-use Rattle.std.proofs.Common.{◌≡◌, ◌∙◌, ℕ, List, Some, IfSome, Err, refl, ap, arith, length, sym, subst, take}
+use Rattle.std.proofs.Common.{◌≡◌, ◌∙◌, ℕ, List, Some, None, Option, IfSome, Err, refl, ap, arith, length, sym, subst, take}
 use Rattle.outside.specs.Files.{bytes_of}
 use Rattle.outside.specs.Seen.{seen}
 use Rattle.outside.proofs.SeenLemmas.{reads_after, reads_none}
