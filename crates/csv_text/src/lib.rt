@@ -5,8 +5,10 @@
 mod cells;
 mod coded;
 mod field;
+mod laws;
 mod putting;
 mod rows;
 
 pub use coded::{CodedColumn, ColumnValues, RowIds};
+pub use laws::reads_back_law;
 pub use rows::coded_text;
