@@ -56,7 +56,8 @@ fn put_chunk(bytes: &[u8], from: usize, count: usize, text: &mut [u8], at: usize
     requires from { from + 16 ≤ length bytes.now }
     requires at { at + 16 ≤ length text.old }
     ensures count { length text.new ≡ length text.old }
-    ensures text { take (at + count) text.new ≡ take at text.old ++ take count (drop from bytes.now) }
+    ensures text { take (at + count) text.new
+        ≡ take at text.old ++ take count (drop from bytes.now) }
 {
     u8x16::from_slice(&bytes[from..]).copy_to_slice(&mut text[at..]);
 }

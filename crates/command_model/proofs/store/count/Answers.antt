@@ -1,6 +1,6 @@
 use Rattle.std.proofs.Common.{◌≡◌, ◌∙◌, sym}
 use Rattle.values.proofs.RowLemmas.{length-rows}
-use Rattle.commands.proofs.look.count.Goals as goal
+use Rattle.command_model.proofs.store.count.Goals as goal
 
 pub returns : goal.returns
 returns c =
