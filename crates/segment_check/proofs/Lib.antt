@@ -11,3 +11,4 @@ pub mod OnePart
 pub mod SaidRows
 pub mod ImageOrPart
 pub mod Finds
+pub mod SpelledText

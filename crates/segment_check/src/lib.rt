@@ -3,6 +3,7 @@
 #![tactic(auto)]
 
 mod check;
+mod coded;
 mod codes;
 mod columns;
 mod compare;
@@ -14,4 +15,4 @@ pub use check::{check_columns, check_image, count_image};
 pub use laws::{
     fails_once_law, finds_one_law, finds_some_law, image_or_part_law, images_pass_law, one_part_law,
 };
-pub use spell::spell_columns;
+pub use spell::spell_text;

@@ -12,7 +12,7 @@ use Rattle.segment_build.specs.Publishing.{incoming}
 use Rattle.segment_file.specs.Image.{image}
 use Rattle.segment_file.specs.Names.{file_of}
 use Rattle.segment_file.specs.declared.part.Part.{Part}
-use Rattle.table_store.specs.Images.{IsNoStoredImage, IsStoredCount, IsStoredImage, SpellsNoStored, SpellsStored}
+use Rattle.table_store.specs.Images.{IsNoStoredImage, IsSpelledText, IsStoredCount, IsStoredImage, SpellsNoStored}
 use Rattle.table_store.specs.Segments.{HasRoom, HasSegment, IsFull, LacksSegment}
 use Rattle.table_store.specs.declared.fault.StoreFault.{StoreFault}
 use Rattle.table_store.specs.declared.fault.StoreFault.TheVariants.{NameTaken, NoMemory, NoSegment, NotASegment, ReadFault, TooManySegments}
@@ -67,9 +67,9 @@ abbrev pub CountsSegment : Table → List ℕ → Seen → Seen → Result ℕ S
 CountsSegment table name = LooksAtSegment (λ files count. IsStoredCount table files name count)
     (λ files part. IsNoStoredImage table files name part) name
 
--- its head and its ids were looked at: it spells the rows, or none
-abbrev pub SpellsSegment : Table → List ℕ → Seen → Seen → Result ListedColumns StoreFault → Type 0
-SpellsSegment table name = LooksAtSegment (λ files t. SpellsStored table files name (rows_of t))
+-- its head and its ids were looked at: it spells rows whose text is answered, or none
+abbrev pub SpellsSegment : Table → List ℕ → Seen → Seen → Result (List ℕ) StoreFault → Type 0
+SpellsSegment table name = LooksAtSegment (λ files text. IsSpelledText table files name text)
     (λ files part. SpellsNoStored table files name part) name
 
 -- what a call that looks at names and lengths of files alone leaves of a depot
