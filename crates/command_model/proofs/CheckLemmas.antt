@@ -2,14 +2,13 @@
 use Rattle.std.proofs.Common.{◌≡◌, ◌≢◌, ℕ, List, Result, Ok, Err, inl, inr, refl, subst, sym}
 use Rattle.outside.specs.Files.{Files}
 use Rattle.outside.specs.Seen.{Seen}
-use Rattle.values.specs.Columns.{ListedColumns}
 use Rattle.table_schema.specs.declared.table.Table.{Table}
 use Rattle.segment_file.specs.declared.part.Part.{Part}
 use Rattle.table_store.specs.Calls.{LooksAtSegment}
 use Rattle.table_store.specs.declared.fault.StoreFault.{StoreFault}
 use Rattle.table_store.specs.declared.fault.StoreFault.TheVariants as store
 use Rattle.command_model.specs.Gives.{FindsSegment, IsCheckStop, StopsSegment}
-use Rattle.command_model.specs.Look.{IsFileOf, IsFileOfNone}
+use Rattle.command_model.specs.Look.{IsFileOfNone, IsSaid}
 use Rattle.command_model.specs.Stored.{part_text}
 use Rattle.command_words.specs.declared.aim.Aim.{Aim}
 use Rattle.command_words.specs.declared.fault.Fault.TheVariants as fault
@@ -19,8 +18,8 @@ use Rattle.command_words.specs.declared.stop.Stop.TheVariants as stop
 use Rattle.command_model.proofs.StoredLemmas.{reads_as, told_each}
 
 module _ (aim : Aim) (old new : Seen) (table : Table) (name : List ℕ) where
-  abbrev Checks : Result ListedColumns StoreFault → Type 0
-  Checks result = LooksAtSegment (λ files rows. IsFileOf aim table files name rows) (λ files part. IsFileOfNone aim table files name part) name old new result
+  abbrev Checks : Result (List ℕ) StoreFault → Type 0
+  Checks result = LooksAtSegment (λ files text. IsSaid aim table files name text) (λ files part. IsFileOfNone aim table files name part) name old new result
 
   abbrev Finds : Stop → Type 0
   Finds s = FindsSegment aim table name old new (Err s)
@@ -57,8 +56,8 @@ module _ (aim : Aim) (old new : Seen) (table : Table) (name : List ℕ) where
   not_found store.WriteFault s is c = absurd is
   not_found store.NoMemory s is c = memory store.NoMemory s (λ e. cc) is c
 
-  pub found_rows : (t : ListedColumns) → Checks (Ok t) → FindsSegment aim table name old new (Ok t)
-  found_rows t c = record {
+  pub found_text : (text : List ℕ) → Checks (Ok text) → FindsSegment aim table name old new (Ok text)
+  found_text text c = record {
     reads = reads_as old new c.only_reads (λ e. absurd e) (λ e. absurd cc);
     log = c.log;
     unread = c.unread;

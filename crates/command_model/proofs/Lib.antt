@@ -8,3 +8,4 @@ pub mod StoredLemmas
 pub mod WritingLemmas
 pub mod CheckLemmas
 pub mod InputLemmas
+mod DumpBuild

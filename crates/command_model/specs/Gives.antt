@@ -5,7 +5,6 @@ use Rattle.std.specs.Str.{is_utf8}
 use Rattle.outside.specs.Counts.{Rose}
 use Rattle.outside.specs.Files.{Files, Has, Lacks, with_file, without_file}
 use Rattle.outside.specs.Whole.{IsTooLong}
-use Rattle.values.specs.Columns.{ListedColumns, rows_of}
 use Rattle.values.specs.declared.value.Value.{Value}
 use Rattle.csv_ingest.specs.Blocks.{RowsOrFault}
 use Rattle.csv_row.specs.declared.fault.CsvFault.{CsvFault}
@@ -19,7 +18,7 @@ use Rattle.command_model.specs.Build.{HasPlace, PlaceRefuses, IsLineOfPlace, bui
 use Rattle.command_model.specs.Create.{Made}
 use Rattle.command_model.specs.Drop.{dropped_text}
 use Rattle.command_model.specs.Profile.{Opens, StoreFiles, TableFile, place_refuses, query_refuses, rows_refuse, source_refuses, store_refuses, texts_refuse, tree_limit}
-use Rattle.command_model.specs.Look.{IsFileOf, IsFileOfNone}
+use Rattle.command_model.specs.Look.{IsFileOfNone, IsSaid}
 use Rattle.command_model.specs.Queried.{IsQueried, QueryRefuses}
 use Rattle.command_model.specs.Stored.{part_text}
 use Rattle.command_model.specs.Touched.{LogsOpened}
@@ -292,15 +291,14 @@ StopsSegment aim table name held (stop.Fault fault.Write) = ⊥
 StopsSegment aim table name held (stop.Fault fault.Memory) = Unit {0}
 
 -- a call read the file of a segment alone and changed nothing; where files are told, that file is
--- of the rows that it found, or is refused so
+-- of rows of which this is said, or is refused so
 pub record FindsSegment (aim : Aim) (table : Table) (name : List ℕ) (old new : Seen)
-    (result : Result ListedColumns Stop) : Type 0 where
+    (result : Result (List ℕ) Stop) : Type 0 where
   pub reads : OnlyReads (IsErrAnd result (λ s. s ≡ stop.Fault fault.Read)) old new
   pub log : LogsFile (file_of name) old.log new.log
   pub unread : IfSome old.held (λ files. LacksSegment (Some files) name → new.log ≡ old.log)
   pub there : OnOk result (HasSegment old.held name)
-  pub found : IfOk result (λ t. IfSome old.held (λ files.
-      IsFileOf aim table files name (rows_of t)))
+  pub found : IfOk result (λ text. IfSome old.held (λ files. IsSaid aim table files name text))
   pub stops : IfErr result (StopsSegment aim table name old.held)
 
 -- ---- a segment is dropped

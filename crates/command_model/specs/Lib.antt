@@ -19,3 +19,4 @@ pub mod Touched
 pub mod Look
 pub mod World
 pub mod ScanNotes
+pub mod DumpBuild

@@ -44,6 +44,11 @@ abbrev pub IsFileOfNone : Aim → Table → Files → List ℕ → Part → Type
 IsFileOfNone Verify table files name part = IsNoStoredImage table files name part
 IsFileOfNone Dump table files name part = SpellsNoStored table files name part
 
+-- this is said of a segment of this name: its file is of some rows
+abbrev pub IsSaid : Aim → Table → Files → List ℕ → List ℕ → Type 0
+IsSaid aim table files name text = (rows : List (List Value)) × IsFileOf aim table files name rows
+    × (text ≡ looked_text aim table name rows)
+
 -- ---- over any published files
 
 -- the file of the segment of this name is of rows of the table, of which this is said

@@ -4,25 +4,23 @@ ghost use Rattle.std.specs.List.{All};
 ghost use Rattle.outside.specs.Seen.{seen};
 ghost use Rattle.segment_file.specs.Names.{IsSegmentName, IsSegmentOf};
 ghost use Rattle.table_schema.specs.ValidTable.{IsValidTable};
-ghost use Rattle.values.specs.Columns.{rows_of};
 ghost use Rattle.table_store.specs.Calls.{IsCheckFault, LooksAtSegment};
 ghost use Rattle.table_store.specs.Segments.{AreFirstNames};
 ghost use Rattle.table_store.specs.TableFile.{table_name};
 ghost use Rattle.command_model.specs.Gives.{FindsPlace, FindsSegment, IsCheckStop, IsLookFault, IsMissingStop, IsStopOf, IsTakenStop, LooksFor};
-ghost use Rattle.command_model.specs.Look.{IsFileOf, IsFileOfNone};
+ghost use Rattle.command_model.specs.Look.{IsFileOfNone, IsSaid, verified_text};
 ghost use Rattle.command_model.specs.Places.{IsPlaceFault, IsPlaceStop};
 ghost use Rattle.command_model.specs.Profile.{TableFile};
 ghost use Rattle.command_model.specs.Stored.{HasTableFile, TableRefuses};
 
 use crate::segment_stop;
 use command_words::{Aim, Counted, Fault, Note, Stop};
-use outside::{Depot, Name, Seq};
+use outside::{Bytes, Depot, Name, Seq};
 use std::alloc::{AllocError, Global};
 use table_schema::Table;
 use table_store::{
-    MOST_SEGMENTS, StoreFault, check_segment, find_room, open_table, segment_names, spell_segment,
+    MOST_SEGMENTS, StoreFault, count_segment, find_room, open_table, segment_names, spell_segment,
 };
-use values::Columns;
 
 /// The table of the store.
 pub fn stored_table<D: Depot>(alloc: Global, depot: &mut D) -> Result<Table, Stop>
@@ -61,42 +59,76 @@ pub fn table_with_place<D: Depot>(alloc: Global, name: &str, depot: &mut D) -> R
     }
 }
 
-/// The rows of the segment of this name, column by column, where its file is of them: their image,
-/// or for `dump` one that spells them.
-pub fn stored_rows<D: Depot>(
+/// What is said of the segment of this name where its file is of rows: their image, or for `dump`
+/// one that spells them.
+pub fn said_of<D: Depot>(
     alloc: Global,
     aim: Aim,
     table: &Table,
     name: &str,
     depot: &mut D,
-) -> Result<Columns, Stop>
+) -> Result<Bytes, Stop>
     requires { IsSegmentOf table.now name.now }
     ensures { FindsSegment aim table.now name.now
         (seen D.Shelf depot.old) (seen D.Shelf depot.new) result }
 {
     match look_at(alloc, aim, table, name, depot) {
-        Ok(columns) => Ok(columns),
+        Ok(text) => Ok(text),
         Err(fault) => Err(no_image(alloc, table, name, fault)),
     }
 }
 
-// The rows of the segment of this name, by the store.
+// The same, by the store.
 fn look_at<D: Depot>(
     alloc: Global,
     aim: Aim,
     table: &Table,
     name: &str,
     depot: &mut D,
-) -> Result<Columns, StoreFault>
+) -> Result<Bytes, StoreFault>
     requires { IsSegmentOf table.now name.now }
-    ensures { LooksAtSegment (λ files rows. IsFileOf aim table.now files name.now rows)
+    ensures { LooksAtSegment (λ files text. IsSaid aim table.now files name.now text)
         (λ files part. IsFileOfNone aim table.now files name.now part) name.now
         (seen D.Shelf depot.old) (seen D.Shelf depot.new) result }
 {
     match aim {
-        Aim::Verify => check_segment(alloc, depot, table, name),
+        Aim::Verify => verify_at(alloc, table, name, depot),
         Aim::Dump => spell_segment(alloc, depot, table, name),
     }
+}
+
+// How many rows its file is the image of, where it is one.
+fn verify_at<D: Depot>(
+    alloc: Global,
+    table: &Table,
+    name: &str,
+    depot: &mut D,
+) -> Result<Bytes, StoreFault>
+    requires { IsSegmentOf table.now name.now }
+    ensures { LooksAtSegment (λ files text. IsSaid Aim.Verify table.now files name.now text)
+        (λ files part. IsFileOfNone Aim.Verify table.now files name.now part) name.now
+        (seen D.Shelf depot.old) (seen D.Shelf depot.new) result }
+{
+    let rows = match count_segment(alloc, depot, table, name) {
+        Ok(rows) => rows,
+        Err(fault) => return Err(fault),
+    };
+    match verified(alloc, name, rows as usize) {
+        Ok(text) => Ok(text),
+        Err(_) => Err(StoreFault::NoMemory),
+    }
+}
+
+// The reply that a segment has so many rows.
+fn verified(alloc: Global, name: &str, rows: usize) -> Result<Bytes, AllocError>
+    ensures { IfOk result (λ text. text ≡ verified_text name.now rows) }
+{
+    let mut text = name.as_bytes().to_vec(alloc)?;
+    text.extend_from_slice(b" is a segment of ")?;
+    let digits = rows.to_string(alloc)?;
+    text.extend_from_slice(digits.as_bytes())?;
+    text.extend_from_slice(b" rows\n")?;
+    Ok(Seq::from_vec(text))
 }
 
 // What a fault of a look at a segment is for a command.

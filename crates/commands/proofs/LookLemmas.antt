@@ -4,7 +4,6 @@ use Rattle.std.proofs.lemmas.List.Elements.{All-append}
 use Rattle.outside.specs.Files.{Files}
 use Rattle.outside.specs.Reads.{Entry}
 use Rattle.outside.specs.Seen.{OnlyReads, Seen}
-use Rattle.values.specs.Columns.{ListedColumns, rows_of}
 use Rattle.table_schema.specs.declared.table.Table.{Table}
 use Rattle.segment_file.specs.Names.{file_of}
 use Rattle.segment_file.specs.declared.part.Part.{Part}
@@ -14,7 +13,7 @@ use Rattle.table_store.specs.TableFile.{table_name}
 use Rattle.command_words.specs.Command.{Look}
 use Rattle.command_model.specs.Consulted.{AtMostRead}
 use Rattle.command_model.specs.Gives.{FindsSegment, LooksFor, RefusesSegment}
-use Rattle.command_model.specs.Look.{IsFileOf, IsFileOfNone, IsUnlikeRows, LookRefuses, looked_text}
+use Rattle.command_model.specs.Look.{IsFileOfNone, IsSaid, IsUnlikeRows, LookRefuses}
 use Rattle.command_model.specs.Profile.{SegmentFile, TableFile, segment_refuses, store_refuses}
 use Rattle.command_model.specs.Ran.{Acted, Caused, IsAllowed, IsWrong, Looks, NoFaults, Ran}
 use Rattle.command_model.specs.Step.{Answer, Refuses, Replies}
@@ -82,10 +81,10 @@ module _ (aim : Aim) (table : Table) (name : List ℕ) where
   unlike_so part None is has of = tt
   unlike_so part (Some files) is has (wrong, none, same) = record { table = table; table_is = is; there = has; wrong = wrong; none = none; line_is = ap (note.NotASegment name) same }
 
-  looked_so : (t : ListedColumns) (text : List ℕ) (held : Option Files) → IfSome held (λ files. HasTableFile files table) → HasSegment held name → IfSome held (λ files. IsFileOf aim table files name (rows_of t)) → text ≡ looked_text aim table name (rows_of t)
+  looked_so : (text : List ℕ) (held : Option Files) → IfSome held (λ files. HasTableFile files table) → HasSegment held name → IfSome held (λ files. IsSaid aim table files name text)
       → IfSome held (λ files. Looks aim name files (Replies text))
-  looked_so t text None is has image said = tt
-  looked_so t text (Some files) is has image said = record { table = table; table_is = is; there = has; rows = rows_of t; file_is = image; text_is = said }
+  looked_so text None is has said = tt
+  looked_so text (Some files) is has (rows, image, said) = record { table = table; table_is = is; there = has; rows = rows; file_is = image; text_is = said }
 
 -- ---- the clause of `verify` and `dump`
 
@@ -164,10 +163,10 @@ module _ (aim : Aim) (name : List ℕ) (i a b d : Seen) (table : Table) (first :
   before : (P : Option Files → Type 0) → P b.held → P a.held
   before P h = subst P first.reads.held h
 
-  log_of : {R : Result ListedColumns Stop} → FindsSegment aim table name b d R → LogsOpened (SegmentFile name) a.log d.log
+  log_of : {R : Result (List ℕ) Stop} → FindsSegment aim table name b d R → LogsOpened (SegmentFile name) a.log d.log
   log_of f = then_segment name a.log b.log d.log first.log f.log
 
-  most_of : {R : Result ListedColumns Stop} → FindsSegment aim table name b d R → IfSome a.held (λ files. LacksSegment (Some files) name → LogsOpened TableFile a.log d.log)
+  most_of : {R : Result (List ℕ) Stop} → FindsSegment aim table name b d R → IfSome a.held (λ files. LacksSegment (Some files) name → LogsOpened TableFile a.log d.log)
   most_of f = then_none name a.held a.log b.log d.log first.log (before (λ h. IfSome h (λ files. LacksSegment (Some files) name → d.log ≡ b.log)) f.unread)
 
   reads_of : {F : Type 0} → OnlyReads F b d → OnlyReads F a d
@@ -207,12 +206,8 @@ module _ (aim : Aim) (name : List ℕ) (i a b d : Seen) (table : Table) (first :
   ran_unfound (stop.Fault fault.Write) f = absurd f.stops
   ran_unfound (stop.Fault fault.Memory) f = ran_starved aim name i a d (log_of f) (most_of f) (reads_of f.reads) (λ e. cc)
 
-  -- it is the image of rows
-  module _ (t : ListedColumns) (f : FindsSegment aim table name b d (Ok t)) where
-    pub ran_found : (text : List ℕ) → text ≡ looked_text aim table name (rows_of t) → Of aim name i a d (Ok text)
-    ran_found text said =
-        ran_told aim name i a d (log_of f) (most_of f) text (reads_of f.reads) (λ e. e)
-        (looked_so aim table name t text a.held first.found (before (λ h. HasSegment h name) f.there) (before (λ h. IfSome h (λ files. IsFileOf aim table files name (rows_of t))) f.found) said)
-
-    pub ran_untold : Of aim name i a d (Err (stop.Fault fault.Memory))
-    ran_untold = ran_starved aim name i a d (log_of f) (most_of f) (reads_of f.reads) (λ e. e)
+  -- it is of rows of which this is said
+  pub ran_found : (text : List ℕ) → FindsSegment aim table name b d (Ok text) → Of aim name i a d (Ok text)
+  ran_found text f =
+      ran_told aim name i a d (log_of f) (most_of f) text (reads_of f.reads) (λ e. e)
+      (looked_so aim table name text a.held first.found (before (λ h. HasSegment h name) f.there) (before (λ h. IfSome h (λ files. IsSaid aim table files name text)) f.found))

@@ -1,1 +1,4 @@
 pub mod Records
+pub mod CellLemmas
+pub mod ReadCells
+pub mod ReadBack

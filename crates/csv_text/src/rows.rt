@@ -1,18 +1,42 @@
 //! Records of names, and of rows that are kept column by column.
-ghost use Rattle.std.specs.Prelude.{◌≡◌, ◌<◌, ◌++◌, IfOk, OnOk, get_or, length, map, pos};
-ghost use Rattle.csv.specs.Writing.{default_writer, field_text, row_text};
-ghost use Rattle.values.specs.declared.value.Value.TheVariants as value;
+ghost use Rattle.std.specs.Prelude.{◌≡◌, ◌≤◌, ◌<◌, ◌++◌, IfOk, length, map};
+ghost use Rattle.std.specs.List.{All};
+ghost use Rattle.csv.specs.Writing.{default_writer, row_text};
 ghost use Rattle.values.specs.Columns.{row_of, rows_of};
 ghost use Rattle.values.specs.Printed.{text_of};
-ghost use Rattle.csv_text.specs.Rows.{names_of, records_text};
+ghost use Rattle.csv_text.specs.Cells.{AreCells, IsPut};
+ghost use Rattle.csv_text.specs.Coded.{HasRow, IsCodedColumn, listed, listed_columns};
+ghost use Rattle.csv_text.specs.Rows.{names_of, records_text, rows_text};
 
-use crate::field::{end_record, push_field, push_number, separate};
+use crate::CodedColumn;
+use crate::cells::{Cells, cells_of};
+use crate::field::{end_record, push_field, separate};
+use crate::putting::put_cell;
+use data_types::{Bytes, Seq};
 use std::alloc::{AllocError, Global};
 use table_schema::Field;
-use values::{Column, Columns};
 
-/// The record of the names of fields, which a text begins with.
-pub fn names_text(alloc: Global, fields: &[Field]) -> Result<Vec<u8>, AllocError>
+/// The text of so many rows in these columns: the names of the fields, and a record for each row.
+pub fn coded_text(
+    alloc: Global,
+    fields: &[Field],
+    columns: &[CodedColumn<'_>],
+    rows: usize,
+) -> Result<Bytes, AllocError>
+    requires some { 0 < length columns.now }
+    requires coded { All (IsCodedColumn rows) columns.now }
+    ensures { IfOk result (λ text. text
+        ≡ rows_text fields.now (rows_of (listed_columns rows columns.now))) }
+{
+    let cells = cells_of(alloc, columns)?;
+    let mut text = names_text(alloc, fields)?;
+    let end = put_rows(columns, &cells, rows, &mut text)?;
+    text.truncate(end);
+    Ok(Seq::from_vec(text))
+}
+
+// The record of the names of fields, which a text begins with.
+fn names_text(alloc: Global, fields: &[Field]) -> Result<Vec<u8>, AllocError>
     ensures { IfOk result (λ text. text.items ≡ row_text default_writer (names_of fields.now)) }
 {
     let mut text = Vec::new(alloc);
@@ -24,43 +48,46 @@ pub fn names_text(alloc: Global, fields: &[Field]) -> Result<Vec<u8>, AllocError
     Ok(text)
 }
 
-/// Appends a record for each of the rows.
-pub fn push_rows(columns: &Columns, text: &mut Vec<u8>) -> Result<(), AllocError>
-    ensures { OnOk result (text.new.items
-        ≡ text.old.items ++ records_text (rows_of columns.now)) }
+// Puts a record for each of the rows at the end of a text, and answers where it ends then.
+fn put_rows(
+    columns: &[CodedColumn<'_>],
+    cells: &[Cells],
+    rows: usize,
+    text: &mut Vec<u8>,
+) -> Result<usize, AllocError>
+    requires some { 0 < length columns.now }
+    requires coded { All (IsCodedColumn rows) columns.now }
+    requires cells { AreCells columns.now (length columns.now) cells.now }
+    ensures { IfOk result (IsPut text.old.items (length text.old.items)
+        (records_text (rows_of (listed_columns rows columns.now))) text.new.items) }
 {
-    'rows: for at in 0..columns.len() {
-        push_row(columns, at, text)?;
+    let mut end = text.len();
+    'rows: for row in 0..rows {
+        end = put_row(columns, cells, row, text, end)?;
     }
-    Ok(())
+    Ok(end)
 }
 
-// Appends the record of a row.
-fn push_row(columns: &Columns, row: usize, text: &mut Vec<u8>) -> Result<(), AllocError>
-    requires { row < columns.now.count }
-    ensures { OnOk result (text.new.items ≡ text.old.items
-        ++ row_text default_writer (map text_of (row_of columns.now.columns row))) }
-{
-    let start = text.len();
-    'cells: for at in 0..columns.width() {
-        separate(at, text)?;
-        push_cell(columns.column(at), row, text)?;
-    }
-    end_record(columns.width(), start, text)
-}
-
-// Appends what is written of a row in a column.
+// Puts the record of a row at the end of a text, and answers where it ends then.
 #[inline(always)]
-fn push_cell(column: &Column, row: usize, text: &mut Vec<u8>) -> Result<(), AllocError>
-    requires { row < length column.now.values }
-    ensures { OnOk result (text.new.items ≡ text.old.items ++ field_text default_writer
-        (text_of (get_or column.now.values row (value.Whole (pos 0))))) }
+fn put_row(
+    columns: &[CodedColumn<'_>],
+    cells: &[Cells],
+    row: usize,
+    text: &mut Vec<u8>,
+    at: usize,
+) -> Result<usize, AllocError>
+    requires at { at ≤ length text.old.items }
+    requires some { 0 < length columns.now }
+    requires row { All (HasRow row) columns.now }
+    requires cells { AreCells columns.now (length columns.now) cells.now }
+    ensures { IfOk result (IsPut text.old.items at (row_text default_writer
+        (map text_of (row_of (map listed columns.now) row))) text.new.items) }
 {
-    if let Some(numbers) = column.as_numbers() {
-        return push_number(numbers[row], text);
+    let last = columns.len() - 1;
+    let mut end = at;
+    'cells: for k in 0..last {
+        end = put_cell(&cells[k], columns[k].ids.at(row), text, end)?;
     }
-    match column.as_texts() {
-        Some(texts) => push_field(texts.at(row).as_bytes(), text),
-        None => unreachable!(),
-    }
+    put_cell(&cells[last], columns[last].ids.at(row), text, end)
 }

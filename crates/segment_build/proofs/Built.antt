@@ -1,5 +1,5 @@
 -- The file of the sections of columns is the image of their rows.
-use Rattle.std.proofs.Common.{◌≡◌, ◌<◌, ◌≤◌, ◌^◌, ◌∙◌, ◌∷◌, ◌++◌, [], true, false, ℕ, List, Option, Some, Result, Ok, Err, IfOk, length, map, get_or, slice_get, sym, ap, subst, arith}
+use Rattle.std.proofs.Common.{◌≡◌, ◌<◌, ◌≤◌, ◌^◌, ◌∙◌, ◌∷◌, ◌++◌, [], true, false, ℕ, List, Option, Some, length, map, get_or, sym, subst, arith}
 use Rattle.std.specs.List.{All, concat}
 use Rattle.values.specs.declared.value.Value.{Value}
 use Rattle.values.specs.Columns.{Counts, Listed, ListedColumns, rows_of}
@@ -14,23 +14,20 @@ use Rattle.segment_file.specs.Image.{front_of, image, sections_of_rows, values_i
 use Rattle.segment_file.specs.Names.{IsSegmentName}
 use Rattle.segment_file.specs.Ordered.{ordered, value_in}
 use Rattle.segment_build.specs.Fitting.{AreColumns, FitsKind}
-use Rattle.segment_build.specs.declared.coding.RowOrder.{RowOrder}
-use Rattle.segment_build.specs.Arranging.{Orders, OrdersBy}
 use Rattle.segment_build.proofs.ColumnLemmas.{column_values}
 use Rattle.segment_build.proofs.SectionLemmas.{made_all}
 use Rattle.segment_build.proofs.Stable.{ordered_count, same_distinct}
 use Rattle.std.proofs.lemmas.List.{length-map}
 use Rattle.std.proofs.lemmas.Bool.{ltb-true}
-use Rattle.std.proofs.lemmas.Option.{get_or_from_slice_get}
 use Rattle.table_schema.specs.ValidSettings.{IsValidTree, is_known_number}
-use Rattle.segment_build.proofs.Fits.{column_fit, columns_fit, rows_few}
+use Rattle.segment_build.proofs.Fits.{column_fit, rows_few}
 use Rattle.segment_build.proofs.Sizes.{IsModest, IsSmall, file_short, made_small, nodes_small, short_values, stars_small}
 use Rattle.segment_build.specs.Growing.{TreesFit, nodes_grown, stars_grown}
 use Rattle.segment_file.proofs.ImageRows.{ordered_all}
 use Rattle.segment_file.proofs.TreeRows.{TreeSections, tree_sections}
 use Rattle.segment_file.specs.Trees.{TreeFits}
 use Rattle.table_schema.specs.declared.settings.TreeSetting.{TreeSetting}
-use Rattle.segment_build.proofs.CodedColumns.{in_rows, rows_most}
+use Rattle.segment_build.proofs.ColumnCodes.{in_rows, rows_most}
 
 no_column : Listed
 no_column = record { are_texts = false; values = [] }
@@ -109,21 +106,5 @@ rows_fit table t rows counts are number =
 
 -- ---- the sorted column
 
-known_below : (table : Table) (m : ℕ) → IsValidTable table → table.settings.sorted ≡ Some m → m < length table.schema.fields
+pub known_below : (table : Table) (m : ℕ) → IsValidTable table → table.settings.sorted ≡ Some m → m < length table.schema.fields
 known_below table m valid is = ltb-true m (length table.schema.fields) (subst (λ (o : Option ℕ). is_known_number table.schema.fields o ≡ true) is valid.settings.sorted_known)
-
--- a dictionary can be made of the sorted column
-pub chosen_fits : (table : Table) (t : ListedColumns) (m : ℕ) (field : Field) (column : Listed) (fields : List Field) → IsValidTable table → AreColumns table.schema.fields t → table.settings.sorted ≡ Some m
-    → fields ≡ table.schema.fields → field ≡ get_or fields m field → slice_get t.columns m ≡ Some column → FitsKind (get_or fields m field).kind column
-chosen_fits table t m field column fields valid are is same field_is column_is =
-    subst (λ (f : Field). FitsKind f.kind column) field_is
-    (columns_fit table.schema.fields t m field column are (known_below table m valid is) (field_is ∙ ap (λ fs. get_or fs m field) same) (sym (get_or_from_slice_get t.columns m column column column_is)))
-
--- the order by the values of the sorted column is that of the rows
-pub order_found : {E : Type 0} (table : Table) (t : ListedColumns) (m : ℕ) (column : Listed) (found : Result RowOrder E) → IsValidTable table → AreColumns table.schema.fields t → table.settings.sorted ≡ Some m
-    → slice_get t.columns m ≡ Some column → IfOk found (OrdersBy column.values) → IfOk found (Orders table.settings.sorted (rows_of t))
-order_found table t m column (Err e) valid are is column_is by = tt
-order_found table t m column (Ok o) valid are is column_is by =
-    let below : m < length t.columns = omega (arith, known_below table m valid is, are.width) in
-    let values : values_in m (rows_of t) ≡ column.values = column_values t.count t.columns m column are.counts below ∙ ap (λ c. c.values) (get_or_from_slice_get t.columns m column column column_is) in
-    subst (λ (s : Option ℕ). Orders s (rows_of t) o) (sym is) (by m (rows_of t) values)

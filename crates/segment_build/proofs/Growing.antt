@@ -2,7 +2,7 @@
 use Rattle.std.proofs.Common.{◌≡◌, ◌∙◌, ◌<◌, ◌≤◌, ◌+◌, ℕ, zero, suc, ℤ, List, [], ◌∷◌, ◌++◌, length, map, get_or, take, replicate, Option, Some, None, Bool, true, false, refl, sym, ap, subst, arith}
 use Rattle.std.specs.Prelude.{pos, slice_get}
 use Rattle.std.specs.List.{All, list_all}
-use Rattle.std.proofs.lemmas.Bool.{false≢true}
+use Rattle.std.proofs.lemmas.Bool.{false≢true, ltb-true}
 use Rattle.std.specs.Option.{option_map_or}
 use Rattle.std.proofs.lemmas.List.{get_or-map, length-map, map-append, take_all, take_more}
 use Rattle.std.proofs.lemmas.List.Elements.{All-head, All-map, All-nil, All-cons, All-push, All-tail}
@@ -17,7 +17,7 @@ use Rattle.table_schema.specs.declared.field.Field.{Field}
 use Rattle.table_schema.specs.declared.query.Agg.{Agg}
 use Rattle.table_schema.specs.declared.settings.TreeSetting.{TreeSetting}
 use Rattle.table_schema.specs.Roles.{is_numeric}
-use Rattle.table_schema.specs.ValidSettings.{pair_fits}
+use Rattle.table_schema.specs.ValidSettings.{is_number_of, pair_fits}
 use Rattle.segment_file.proofs.ImageRows.{and_first, and_second}
 use Rattle.value_ids.specs.Dictionary.{distinct}
 use Rattle.star_rows.specs.Columns as records
@@ -128,6 +128,14 @@ pairs_known fields n [] count fit = All-nil (λ (p : Agg). IsKnown n p.column)
 pairs_known fields n (p ∷ pairs) count fit =
     let F : Agg → Bool = λ q. pair_fits fields q.kind q.column in
     All-cons (λ (q : Agg). IsKnown n q.column) p pairs (pair_known fields n p.kind p.column count (and_first (F p) (list_all F pairs) fit)) (pairs_known fields n pairs count (and_second (F p) (list_all F pairs) fit))
+
+-- ---- the columns of split dimensions
+
+pub split_within : (fields : List Field) (n : ℕ) (split : List ℕ) → n ≡ length fields → list_all (is_number_of fields) split ≡ true → All (λ c. c < n) split
+split_within fields n [] count known = All-nil (λ c. c < n)
+split_within fields n (c ∷ split) count known =
+    let own = ltb-true c (length fields) (and_first (is_number_of fields c) (list_all (is_number_of fields) split) known) in
+    All-cons (λ d. d < n) c split (omega (arith, own, count)) (split_within fields n split count (and_second (is_number_of fields c) (list_all (is_number_of fields) split) known))
 
 -- ---- one more tree
 

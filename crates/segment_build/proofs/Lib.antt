@@ -2,7 +2,8 @@ pub mod Fits
 pub mod ColumnLemmas
 pub mod Stable
 pub mod Arranged
-pub mod CodedColumns
+pub mod ColumnCodes
+pub mod Codings
 pub mod RowLemmas
 pub mod NumberLemmas
 pub mod FitTests

@@ -1,5 +1,5 @@
 -- The merged documents of trees, one tree after the other.
-use Rattle.std.proofs.Common.{◌≡◌, ◌∙◌, ◌<◌, ◌+◌, ◌⊎◌, inl, inr, Err, ℕ, zero, suc, List, [], ◌∷◌, ◌++◌, length, length-drop, drop, take, get_or, sym, ap, subst, arith, refl}
+use Rattle.std.proofs.Common.{◌≡◌, ◌∙◌, ◌<◌, ◌+◌, inl, inr, Err, ℕ, zero, suc, List, [], ◌∷◌, ◌++◌, length, length-drop, drop, take, get_or, sym, ap, subst, arith}
 use Rattle.std.proofs.lemmas.Slice.Zip.{AllZip-long}
 use Rattle.std.specs.List.{All, AllZip}
 use Rattle.values.specs.declared.value.Value.{Value}
@@ -12,7 +12,7 @@ use Rattle.segment_build.specs.declared.fault.BuildFault.{BuildFault}
 use Rattle.segment_build.specs.declared.fault.BuildFault.TheVariants.{NoMemory, TooLarge}
 use Rattle.segment_build.specs.Growing.{IsBuilt, nodes_grown, stars_grown}
 use Rattle.segment_build.specs.Made.{each_bytes}
-use Rattle.segment_build.proofs.CodedColumns.{in_rows}
+use Rattle.segment_build.proofs.ColumnCodes.{in_rows}
 
 pub zip_push : {A B : Type 0} (R : A → B → Type 0) (xs : List A) (ys : List B) (x : A) (y : B) → AllZip R xs ys → R x y → AllZip R (xs ++ x ∷ []) (ys ++ y ∷ [])
 zip_push R [] [] x y all one = (one, tt)

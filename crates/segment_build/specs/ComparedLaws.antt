@@ -1,12 +1,12 @@
 -- Bytes that are compared with a file, one piece after another.
-use Rattle.std.proofs.Common.{◌≡◌, ◌≢◌, ◌∙◌, ◌<◌, ◌≤◌, ◌+◌, ◌^◌, ℕ, zero, suc, List, [], ◌∷◌, ◌++◌, length, take, drop, slice_get, Option, Some, None, IfSome, Result, Ok, Err, OnOk, OnErr, IsErrOf, refl, sym, ap, subst, arith, zero-add, length-append}
+use Rattle.std.proofs.Common.{◌≡◌, ◌∙◌, ◌<◌, ◌+◌, ℕ, zero, suc, List, [], ◌∷◌, ◌++◌, length, take, drop, slice_get, Option, Some, None, IfSome, Result, Ok, Err, OnOk, IsErrOf, refl, sym, ap, subst, arith, zero-add, length-append}
 use Rattle.std.proofs.lemmas.List.{drop-drop, take-append-le}
 use Rattle.outside.specs.Counts.{Rose}
 use Rattle.outside.specs.Files.{Files, bytes_of}
 use Rattle.outside.specs.Seen.{OnlyReads, Seen}
 use Rattle.segment_build.specs.declared.fault.CompareFault.{CompareFault}
-use Rattle.segment_build.specs.declared.fault.CompareFault.TheVariants.{Differs, Failed, NoMemory}
-use Rattle.segment_build.specs.Compared.{Compared, Compares, DifferAt, IsCommon}
+use Rattle.segment_build.specs.declared.fault.CompareFault.TheVariants.{Failed, NoMemory}
+use Rattle.segment_build.specs.Compared.{Compared, Compares, DifferAt}
 use Rattle.segment_build.specs.FileReads.{LogsFile, file_then, file_unread}
 
 -- ---- lists

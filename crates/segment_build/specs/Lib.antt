@@ -2,6 +2,7 @@ pub mod Fitting
 pub mod Arranging
 pub mod Sections
 pub mod Numbers
+pub mod Coded
 pub mod RowColumns
 pub mod Growing
 pub mod Publishing

@@ -1,5 +1,5 @@
 -- The documents of a segment's trees as they are merged, before the trees are built.
-use Rattle.std.specs.Prelude.{◌≡◌, ◌≤◌, ◌<◌, ◌^◌, ℕ, List, length, Result, IfOk, OnOk, IsErrOf}
+use Rattle.std.specs.Prelude.{◌≡◌, ◌≤◌, ℕ, List, length, Result, IfOk, OnOk, IsErrOf}
 use Rattle.std.specs.List.{AllZip}
 use Rattle.agg_laws.specs.Merged.{weights}
 use Rattle.agg_laws.specs.Numbers.{most_stored}
@@ -14,10 +14,10 @@ use Rattle.values.specs.declared.value.Value.{Value}
 use Rattle.values.specs.Columns.{ListedColumns, rows_of}
 use Rattle.table_schema.specs.declared.settings.TreeSetting.{TreeSetting}
 use Rattle.table_schema.specs.declared.table.Table.{Table}
-use Rattle.segment_file.specs.Image.{image}
+use Rattle.segment_file.specs.Image.{image, sections_of_rows}
 use Rattle.segment_file.specs.Ordered.{ordered}
 use Rattle.segment_file.specs.Trees.{TreeFits, documents, written}
-use Rattle.segment_build.specs.declared.build.CodedFile.{CodedFile}
+use Rattle.segment_build.specs.declared.build.KeptFile.{KeptFile}
 use Rattle.segment_build.specs.declared.fault.BuildFault.{BuildFault}
 use Rattle.segment_build.specs.declared.grown.Grown.{Grown}
 use Rattle.segment_build.specs.declared.made.MadeFile.{MadeFile}
@@ -35,6 +35,14 @@ pub record IsMerged (rows : List (List Value)) (tree : TreeSetting) (docs : Docs
   pub at_most : length docs.docs ≤ most_stored
   pub weight_fits : weights row_weight docs.docs ≤ most_stored
   pub no_star : HaveNoStar tree.shape.dims docs.docs
+
+-- the rows as documents of a tree, merged in the order in which they came
+pub record MergesRows (rows : List (List Value)) (tree : TreeSetting) (docs : Docs) : Type 0 where
+  pub dims : docs.dims ≡ tree.shape.dims
+  pub kinds : docs.kinds ≡ tree.shape.kinds
+  pub are : docs.docs ≡ merged_docs merged_rows (documents rows tree)
+  pub at_most : length docs.docs ≤ most_stored
+  pub weight_fits : weights row_weight docs.docs ≤ most_stored
 
 -- the columns of a table's rows, and the merged documents of each tree
 pub record AreMerged (table : Table) (t : ListedColumns) (docs : List Docs) : Type 0 where
@@ -60,14 +68,16 @@ pub record GrowsTrees (table : Table) (rows : List (List Value))
 
 -- what is kept of columns when they are let go: how many rows there are, the sections of the
 -- columns, and the merged documents
-pub record IsCodedFile (table : Table) (t : ListedColumns) (coded : CodedFile) : Type 0 where
-  pub merged : AreMerged table t coded.merged.items
-  pub sections : coded.sections ≡ made_of table (ordered table.settings.sorted (rows_of t))
+pub record IsKeptFile (table : Table) (t : ListedColumns) (kept : KeptFile) : Type 0 where
+  pub merged : AreMerged table t kept.merged.items
+  pub sections : kept.sections ≡ made_of table (ordered table.settings.sorted (rows_of t))
       (length table.schema.fields)
-  pub rows : coded.rows ≡ t.count
+  pub rows : kept.rows ≡ t.count
 
 -- the file of rows is made, or the first tree is told that is too large
 pub record MakesFile (table : Table) (name : List ℕ) (rows : List (List Value))
     (result : Result MadeFile BuildFault) : Type 0 where
   pub image : IfOk result (λ made. file_bytes made ≡ image 1 table name rows)
+  pub sections : IfOk result (λ made. each_bytes made.sections.items
+      ≡ sections_of_rows table (ordered table.settings.sorted rows))
   pub built : IsBuilt table rows result

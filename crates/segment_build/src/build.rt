@@ -5,11 +5,13 @@ ghost use Rattle.table_schema.specs.ValidTable.{AreRows, IsValidTable};
 ghost use Rattle.values.specs.Columns.{ListedColumns, rows_of};
 ghost use Rattle.segment_file.specs.Image.{image};
 ghost use Rattle.segment_file.specs.Names.{IsSegmentName};
-ghost use Rattle.segment_build.specs.Fitting.{AreOfTable};
+ghost use Rattle.segment_build.specs.Coded.{AreCoded, columns_in};
 ghost use Rattle.segment_build.specs.Growing.{IsBuilt};
 ghost use Rattle.segment_build.specs.Made.{file_bytes};
-ghost use Rattle.segment_build.specs.Merging.{IsCodedFile, MakesFile};
+ghost use Rattle.segment_build.specs.Merging.{IsKeptFile, MakesFile};
 
+use crate::coded::CodedColumns;
+use crate::coding::code_columns;
 use crate::file::{front_of, push_all};
 use crate::order::row_order;
 use crate::sections::{Sections, column_sections};
@@ -69,7 +71,7 @@ pub fn make_file(
 {
     let _count = columns.len();
     let coded = code_columns(alloc, table, columns)?;
-    make_coded(alloc, table, name, coded)
+    make_of_codes(alloc, table, name, coded)
 }
 
 /// The same of columns that are let go as soon as they are coded.
@@ -90,7 +92,7 @@ pub(crate) fn make_own_file(
     let _count = columns.len();
     let coded = code_columns(alloc, table, &columns)?;
     drop(columns);
-    make_coded(alloc, table, name, coded)
+    make_of_codes(alloc, table, name, coded)
 }
 
 /// The file of a segment of these rows.
@@ -110,47 +112,62 @@ pub fn build_image(
     build_columns(alloc, table, name, &columns)
 }
 
-/// What is kept of columns when they are let go.
+/// The same of columns that are coded. They are let go before the trees are built.
+pub fn make_of_codes(
+    alloc: Global,
+    table: &Table,
+    name: &str,
+    coded: CodedColumns<'_>,
+) -> Result<MadeFile, BuildFault>
+    requires name { IsSegmentName name.now }
+    requires coded { AreCoded table.now coded }
+    ensures { MakesFile table.now name.now (rows_of (columns_in coded.entry)) result }
+{
+    let kept = kept_of(alloc, table, &coded)?;
+    drop(coded);
+    make_kept(alloc, table, name, kept)
+}
+
+/// What is kept of coded columns when they are let go.
 #[derive(Drop)]
-pub(crate) struct CodedFile {
+pub(crate) struct KeptFile {
     pub rows: u32,
     pub sections: Sections,
     pub merged: Vec<StarTable>,
 }
 
-// The columns are coded, and the documents of the trees are merged.
-fn code_columns(alloc: Global, table: &Table, columns: &Columns) -> Result<CodedFile, NoMemory>
-    requires rows { AreOfTable table.now columns.now }
-    ensures { IfOk result (IsCodedFile table.now columns.now) }
+// The documents of the trees are merged, and the sections of the columns are made.
+fn kept_of(alloc: Global, table: &Table, coded: &CodedColumns) -> Result<KeptFile, NoMemory>
+    requires rows { AreCoded table.now coded.now }
+    ensures { IfOk result (IsKeptFile table.now (columns_in coded.now)) }
 {
-    let rows = columns.len() as u32;
-    let order = row_order(alloc, table, columns)?;
-    let merged = merge_trees(alloc, table, columns)?;
-    let sections = column_sections(alloc, table, columns, &order)?;
-    Ok(CodedFile {
-        rows,
+    let order = row_order(alloc, table, coded)?;
+    let merged = merge_trees(alloc, table, coded)?;
+    let sections = column_sections(alloc, table, coded, &order)?;
+    Ok(KeptFile {
+        rows: coded.rows,
         sections,
         merged,
     })
 }
 
 // The file of what is kept of columns.
-fn make_coded(
+fn make_kept(
     alloc: Global,
     table: &Table,
     name: &str,
-    coded: CodedFile,
+    kept: KeptFile,
 ) -> Result<MadeFile, BuildFault>
     requires name { IsSegmentName name.now }
-    requires coded { (t : ListedColumns) × IsCodedFile table.now t coded }
-    ensures { (t : ListedColumns) → IsCodedFile table.now t coded →
+    requires kept { (t : ListedColumns) × IsKeptFile table.now t kept }
+    ensures { (t : ListedColumns) → IsKeptFile table.now t kept →
         MakesFile table.now name.now (rows_of t) result }
 {
-    let CodedFile {
+    let KeptFile {
         rows,
         sections,
         merged,
-    } = coded;
+    } = kept;
     let trees = match grow_trees(alloc, table, merged) {
         Ok(trees) => trees,
         Err(fault) => return Err(fault),

@@ -44,8 +44,8 @@ pub(crate) fn push_all(sections: &[MadeSection], file: &mut Vec<u8>) -> Result<(
     Ok(())
 }
 
-// How long each of these sections is.
-fn sizes_of(alloc: Global, sections: &[MadeSection]) -> Result<Vec<u64>, NoMemory>
+/// How long each of these sections is.
+pub(crate) fn sizes_of(alloc: Global, sections: &[MadeSection]) -> Result<Vec<u64>, NoMemory>
     ensures { IfOk result (λ sizes. sizes.items ≡ map length (each_bytes sections.now)) }
 {
     let mut sizes = Vec::with_capacity(alloc, sections.len())?;

@@ -4,6 +4,7 @@
 #![tactic(auto)]
 
 mod build;
+mod coded;
 mod coding;
 mod columns;
 mod comparing;
@@ -13,6 +14,7 @@ mod file;
 mod grown;
 mod indexes;
 mod laws;
+mod lengths;
 mod made;
 mod numbers;
 mod order;
@@ -23,16 +25,17 @@ mod sections;
 mod taking;
 mod trees;
 
-pub use build::{build_columns, build_image, make_file};
-pub use coding::{RowOrder, coded};
+pub use build::{build_columns, build_image, make_file, make_of_codes};
+pub use coded::{CodedColumn, CodedColumns, ColumnValues};
+pub use coding::RowOrder;
 pub use columns::columns_of;
 pub use comparing::Comparing;
 pub use docs::TreeDocs;
 pub use fault::{BuildFault, CompareFault};
 pub use indexes::Indexes;
 pub use laws::{columns_fit_law, trees_fit_law};
+pub use lengths::section_lengths;
 pub use made::MadeFile;
-pub use numbers::pair_numbers;
 pub use publish::{INCOMING, publish_file, write_columns, write_segment};
 pub use section::MadeSection;
 pub use sections::Sections;

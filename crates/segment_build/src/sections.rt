@@ -10,10 +10,11 @@ ghost use Rattle.segment_build.specs.Made.{each_bytes, section_bytes};
 ghost use Rattle.segment_build.specs.Sections.{in_order, made_of, only, with_column};
 ghost use Rattle.values.specs.Columns.{rows_of};
 ghost use Rattle.segment_file.specs.Ordered.{ordered};
-ghost use Rattle.segment_build.specs.Arranging.{Orders};
-ghost use Rattle.segment_build.specs.Fitting.{AreOfTable};
+ghost use Rattle.segment_build.specs.Arranging.{Orders, arranged};
+ghost use Rattle.segment_build.specs.Coded.{AreCoded, MayPush, columns_in, dictionary_of_ids};
 
-use crate::coding::{RowOrder, coded_column};
+use crate::coded::{CodedColumn, CodedColumns};
+use crate::coding::{RowOrder, gathered};
 use crate::grown::Grown;
 use crate::indexes::{Indexes, indexes_at};
 use crate::section::MadeSection;
@@ -26,7 +27,6 @@ use std::alloc::Global;
 use std::marker::Model;
 use std::mem::replace;
 use table_schema::Table;
-use values::Columns;
 
 /// The sections of the columns that were taken so far. The bounds are of all columns, and each
 /// column has a dictionary and a forward index; the sorted one has runs of places, inverted ones
@@ -144,23 +144,45 @@ impl Sections {
 pub(crate) fn column_sections(
     alloc: Global,
     table: &Table,
-    columns: &Columns,
+    coded: &CodedColumns,
     order: &RowOrder,
 ) -> Result<Sections, NoMemory>
-    requires rows { AreOfTable table.now columns.now }
-    requires order { Orders table.now.settings.sorted (rows_of columns.now) order.now }
+    requires rows { AreCoded table.now coded.now }
+    requires order { Orders table.now.settings.sorted (rows_of (columns_in coded.now)) order.now }
     ensures { IfOk result (λ made. made ≡ made_of table.now
-        (ordered table.now.settings.sorted (rows_of columns.now))
+        (ordered table.now.settings.sorted (rows_of (columns_in coded.now)))
         (length table.now.schema.fields)) }
 {
     let count = table.schema.fields.len();
     let mut sections = Sections::with_capacity(alloc, count)?;
     'columns: for at in 0..count {
-        let (dictionary, ids) = coded_column(alloc, table, columns, order, at)?;
         let indexes = indexes_at(&table.settings, at);
-        sections.push(alloc, &dictionary, ids.as_slice(), indexes)?;
+        push_column(alloc, &coded.columns[at], order, indexes, &mut sections)?;
     }
     Ok(sections)
+}
+
+// Adds the sections of a column, whose rows are put in their order.
+fn push_column(
+    alloc: Global,
+    column: &CodedColumn,
+    order: &RowOrder,
+    indexes: Indexes,
+    sections: &mut Sections,
+) -> Result<(), NoMemory>
+    requires { MayPush column.now order.now indexes }
+    ensures { OnOk result (sections.new ≡ with_column (dictionary_of_ids column.now)
+        (arranged 0 order.now column.now.ids.items) indexes sections.old) }
+{
+    let dictionary = column.values.dictionary();
+    let ids = column.ids.as_slice();
+    match order {
+        RowOrder::AsGiven => sections.push(alloc, dictionary, ids, indexes),
+        RowOrder::ByPlaces(places) => {
+            let ids = gathered(alloc, places.as_slice(), ids)?;
+            sections.push(alloc, dictionary, ids.as_slice(), indexes)
+        }
+    }
 }
 
 // The ids of the rows of a column, which has so many values.

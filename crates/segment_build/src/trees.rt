@@ -1,21 +1,16 @@
 //! The star-trees of a segment are built, one after the other.
-ghost use Rattle.std.specs.Prelude.{◌≡◌, ◌<◌, ◌≤◌, List, length, map, IfOk};
+ghost use Rattle.std.specs.Prelude.{◌≡◌, ◌<◌, List, length, map, IfOk, OnOk};
 ghost use Rattle.std.specs.List.{All};
 ghost use Rattle.values.specs.declared.value.Value.{Value};
 ghost use Rattle.values.specs.Columns.{ListedColumns, rows_of};
 ghost use Rattle.table_schema.specs.ValidSettings.{IsValidTree};
-ghost use Rattle.agg_laws.specs.Merged.{weights};
-ghost use Rattle.agg_laws.specs.Numbers.{most_stored};
-ghost use Rattle.agg_laws.specs.Rows.{merged_rows, row_weight};
-ghost use Rattle.agg_laws.specs.Tree.{merged_docs};
-ghost use Rattle.segment_file.specs.Columns.{ids_of};
-ghost use Rattle.segment_file.specs.Trees.{documents};
-ghost use Rattle.segment_build.specs.Fitting.{AreColumns, AreOfTable};
-ghost use Rattle.segment_build.specs.Merging.{AreMerged, GrowsTree, GrowsTrees, IsMerged};
+ghost use Rattle.segment_build.specs.Coded.{AreCoded, HaveNumbers, columns_in, ids_at};
+ghost use Rattle.segment_build.specs.Merging.{AreMerged, GrowsTree, GrowsTrees, IsMerged, MergesRows};
 
-use crate::coding::ids_as_given;
+use crate::BuildFault;
+use crate::coded::CodedColumns;
 use crate::grown::{Grown, push_tree};
-use crate::{BuildFault, pair_numbers};
+use crate::numbers::{make_numbers, no_numbers, pair_numbers};
 use outside::{NoMemory, Seq};
 use star_builder::{TreeFault, build_merged};
 use star_file::StarTree;
@@ -23,21 +18,22 @@ use star_records::project_merged;
 use star_table::StarTable;
 use std::alloc::Global;
 use table_schema::{Table, TreeSetting};
-use values::Columns;
 
-/// The documents of each star-tree of the columns' rows, merged.
+/// The documents of each star-tree of the columns' rows, merged. The numbers of a column are made
+/// once for all trees.
 pub(crate) fn merge_trees(
     alloc: Global,
     table: &Table,
-    columns: &Columns,
+    coded: &CodedColumns,
 ) -> Result<Vec<StarTable>, NoMemory>
-    requires rows { AreOfTable table.now columns.now }
-    ensures { IfOk result (λ docs. AreMerged table.now columns.now docs.items) }
+    requires rows { AreCoded table.now coded.now }
+    ensures { IfOk result (λ docs. AreMerged table.now (columns_in coded.now) docs.items) }
 {
     let trees = table.settings.trees.as_slice();
     let mut all = Vec::with_capacity(alloc, trees.len())?;
+    let mut numbers = no_numbers(alloc, coded)?;
     'trees: for at in 0..trees.len() {
-        let docs = merged_of_tree(alloc, table, columns, &trees[at])?;
+        let docs = merged_of_tree(alloc, table, coded, &trees[at], &mut numbers)?;
         all.push(docs)?;
     }
     Ok(all)
@@ -87,42 +83,40 @@ fn grow_tree(alloc: Global, tree: &TreeSetting, docs: StarTable) -> Result<StarT
 }
 
 // The rows as documents of a tree, merged: the order in which they came does not matter. The ids
-// are let go. The numbers are read where they are; those of pairs that count rows are zeros.
+// are copied, and the copies let go; those of pairs that count rows are zeros.
 fn merged_of_tree(
     alloc: Global,
     table: &Table,
-    columns: &Columns,
+    coded: &CodedColumns,
     tree: &TreeSetting,
+    numbers: &mut Vec<Vec<i64>>,
 ) -> Result<StarTable, NoMemory>
-    requires rows { AreOfTable table.now columns.now }
+    requires rows { AreCoded table.now coded.now }
     requires tree { IsValidTree table.now.schema.fields tree.now }
-    ensures dims { IfOk result (λ docs. docs.dims ≡ tree.now.shape.dims) }
-    ensures kinds { IfOk result (λ docs. docs.kinds ≡ tree.now.shape.kinds) }
-    ensures docs { IfOk result (λ docs. docs.docs ≡ merged_docs merged_rows
-        (documents (rows_of columns.now) tree.now)) }
-    ensures at_most { IfOk result (λ docs. length docs.docs ≤ most_stored) }
-    ensures weight_fits { IfOk result (λ docs. weights row_weight docs.docs ≤ most_stored) }
+    requires have { HaveNumbers (columns_in coded.now) (map (λ v. v.items) numbers.old.items) }
+    ensures have { OnOk result (HaveNumbers (columns_in coded.now)
+        (map (λ v. v.items) numbers.new.items)) }
+    ensures merged { IfOk result (MergesRows (rows_of (columns_in coded.now)) tree.now) }
 {
-    let dims = split_ids(alloc, table, columns, tree.split.as_slice())?;
-    let metrics = pair_numbers(alloc, columns, tree.pairs.as_slice())?;
+    let pairs = tree.pairs.as_slice();
+    make_numbers(alloc, coded, pairs, numbers)?;
+    let metrics = pair_numbers(alloc, numbers.as_slice(), pairs, coded.rows)?;
+    let dims = split_ids(alloc, coded, tree.split.as_slice())?;
     let docs = project_merged(alloc, &tree.shape, dims, &metrics)?;
     Ok(docs)
 }
 
 // The ids of the rows in these columns.
-fn split_ids(
-    alloc: Global,
-    table: &Table,
-    columns: &Columns,
-    split: &[u16],
-) -> Result<Seq<Seq<u32>>, NoMemory>
-    requires columns { AreColumns table.now.schema.fields columns.now }
-    requires fields { All (λ column. column < length table.now.schema.fields) split.now }
-    ensures { IfOk result (λ ids. ids ≡ map (ids_of (rows_of columns.now)) split.now) }
+fn split_ids(alloc: Global, coded: &CodedColumns, split: &[u16]) -> Result<Seq<Seq<u32>>, NoMemory>
+    requires { All (λ column. column < length coded.now.columns.items) split.now }
+    ensures { IfOk result (λ ids. ids ≡ map (ids_at coded.now) split.now) }
 {
     let mut all = Vec::with_capacity(alloc, split.len())?;
     for column in split {
-        let ids = ids_as_given(alloc, table, columns, *column as usize)?;
+        let ids = coded.columns[*column as usize]
+            .ids
+            .as_slice()
+            .to_vec(alloc)?;
         all.push(Seq::from_vec(ids))?;
     }
     Ok(Seq::from_vec(all))

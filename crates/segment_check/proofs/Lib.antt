@@ -1,7 +1,9 @@
 pub mod RowLemmas
 pub mod HeadLemmas
 pub mod ColumnLemmas
+pub mod IdLemmas
 pub mod Sameness
+pub mod Checks
 pub mod Again
 pub mod ImagesPass
 pub mod FailsOnce
@@ -9,3 +11,4 @@ pub mod OnePart
 pub mod SaidRows
 pub mod ImageOrPart
 pub mod Finds
+pub mod SpelledText

@@ -113,6 +113,9 @@ own_dictionary table name file bytes head column is lt =
 pub field_kind : (table : Table) (k : ℕ) (f : Field) → slice_get table.schema.fields k ≡ Some f → kind_at table k ≡ f.kind
 field_kind table k f e = ap kind_or e
 
+pub field_at : (table : Table) (k : ℕ) (f : Field) → k < length table.schema.fields → f ≡ get_or table.schema.fields k f → kind_at table k ≡ f.kind
+field_at table k f lt is = field_kind table k f (slice_get-get_or table.schema.fields k f lt ∙ ap Some (sym is))
+
 pub get_within : (fields : List Field) (k : ℕ) (f : Field) → slice_get fields k ≡ Some f → k < length fields
 get_within [] k f e = absurd cc
 get_within (g ∷ gs) zero f e = omega arith

@@ -1,5 +1,5 @@
 -- What the calls that look at a whole file answer, are refused by and read.
-use Rattle.std.specs.Prelude.{◌≡◌, ℕ, List, Option, Some, Result, IfErr, IfOk, IfSome, IsErrOf}
+use Rattle.std.specs.Prelude.{◌≡◌, ℕ, List, length, Option, Some, Result, IfErr, IfOk, IfSome, IsErrOf}
 use Rattle.outside.specs.Files.{Files, bytes_of}
 use Rattle.outside.specs.Seen.{OnlyReads, Seen}
 use Rattle.values.specs.declared.value.Value.{Value}
@@ -29,12 +29,19 @@ pub record ChecksImage {A : Type 0} (rows_in : A → List (List Value)) (table :
   pub only_reads : OnlyReads (IsErrOf result ReadFault) old new
   pub log : LogsFile file old.log new.log
 
--- the head and the ids of a file were looked at, and no other file: it spells the rows that are
--- answered, or none
-pub record SpellsFile {A : Type 0} (rows_in : A → List (List Value)) (table : Table)
+-- the same, where it is answered how many rows there are
+pub record CountsImage (table : Table) (name file : List ℕ) (old new : Seen)
+    (result : Result ℕ HeadFault) : Type 0 where
+  pub rows : List (List Value)
+  pub checks : ChecksImage (λ n. rows) table name file old new result
+  pub count : IfOk result (λ n. n ≡ length rows)
+
+-- the head and the ids of a file were looked at, and no other file: it spells rows of which the
+-- answer is, or none
+pub record SpellsFile {A : Type 0} (IsOf : A → List (List Value) → Type 0) (table : Table)
     (name file : List ℕ) (old new : Seen) (result : Result A HeadFault) : Type 0 where
   pub spells : IfOk result (λ a. OfBytes old.held file (λ bytes.
-      Spells table name bytes (rows_in a)))
+      (rows : List (List Value)) × Spells table name bytes rows × IsOf a rows))
   pub refused : IfErr result (λ fault. (p : Part) → fault ≡ NotASegment p
       → OfBytes old.held file (λ bytes. SpellsNone table name bytes p))
   pub only_reads : OnlyReads (IsErrOf result ReadFault) old new

@@ -19,7 +19,7 @@ use Rattle.segment_file.specs.declared.part.Part.{Part}
 use Rattle.segment_file.specs.declared.part.Part.TheVariants as parts
 use Rattle.segment_file.specs.Front.{Front, extents_of}
 use Rattle.segment_file.specs.Image.{image}
-use Rattle.segment_file.specs.Names.{IsSegmentName, IsSegmentOf}
+use Rattle.segment_file.specs.Names.{IsSegmentName}
 use Rattle.segment_file.specs.Parts.{sections_of}
 use Rattle.segment_file.specs.Rules.{FailsAt, HasFront}
 use Rattle.segment_head.specs.Heads.{AreIn, IsHead, Seen, bytes_in, place_in}
@@ -118,30 +118,6 @@ pub record ReadsFileHead (table : Table) (name file : List ℕ) (old new : outsi
   pub only_reads : OnlyReads (IsErrOf result ReadFault) old new
   pub log : LogsFile file old.log new.log
 
--- the values of the rows in a column were read, or its forward index has no such ids
-pub record ReadsColumn (head : Seen) (column : ℕ) (old new : outside.Seen)
-    (result : Result Listed HeadFault) : Type 0 where
-  pub column_is : IfOk result (λ c. (d : Distinct)
-      → slice_get head.dictionaries column ≡ Some (Some d)
-      → IsColumn old.held head column d c.values)
-  pub refused : IfErr result (λ fault. (p : Part) → fault ≡ NotASegment p
-      → (p ≡ parts.Forward column) × ((d : Distinct)
-      → slice_get head.dictionaries column ≡ Some (Some d)
-      → IfSome old.held (λ files. ¬ HasIdsOf files head column (length d.values))))
-  pub only_reads : OnlyReads (IsErrOf result ReadFault) old new
-
--- the columns of a file with this head were read, or the first that has not its ids
-pub record ReadsColumns (table : Table) (head : Seen) (old new : outside.Seen)
-    (result : Result ListedColumns HeadFault) : Type 0 where
-  pub fields : IfOk result (AreOfFields table)
-  pub count : IfOk result (λ t. t.count ≡ head.rows)
-  pub columns : IfOk result (λ t.
-      AreColumns old.held head (length table.schema.fields) t.columns)
-  pub refused : IfErr result (λ fault. (p : Part) → fault ≡ NotASegment p
-      → (column : ℕ) × (p ≡ parts.Forward column) × FailsColumn table old.held head column)
-  pub only_reads : OnlyReads (IsErrOf result ReadFault) old new
-  pub log : (file : List ℕ) → AreIn file head.sections → LogsFile file old.log new.log
-
 -- a file with this front was compared with the image of rows, whose bytes it has from the first on
 pub record ComparesImage (table : Table) (name file : List ℕ) (front : Front)
     (rows : List (List Value)) (old new : outside.Seen) (result : Result (Unit {0}) HeadFault)
@@ -153,10 +129,3 @@ pub record ComparesImage (table : Table) (name file : List ℕ) (front : Front)
       → IsUnlike table name file old.held front rows p)
   pub only_reads : OnlyReads (IsErrOf result ReadFault) old new
   pub log : LogsFile file old.log new.log
-
--- the front of a file of the table, and columns of rows of it
-pub record MayCompare (table : Table) (name : List ℕ) (head : FileHead) (t : ListedColumns)
-    : Type 0 where
-  pub asked : IsSegmentOf table name
-  pub read : IsSomeHead table name head
-  pub fields : AreOfFields table t

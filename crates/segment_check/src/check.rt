@@ -3,9 +3,9 @@ ghost use Rattle.std.specs.Prelude.{◌≡◌, IfOk, length};
 ghost use Rattle.outside.specs.Seen.{seen};
 ghost use Rattle.values.specs.Columns.{rows_of};
 ghost use Rattle.segment_file.specs.Names.{IsSegmentOf};
-ghost use Rattle.segment_check.specs.Calls.{ChecksImage};
+ghost use Rattle.segment_check.specs.Calls.{ChecksImage, CountsImage};
 
-use crate::columns::read_columns;
+use crate::codes::{decoded_columns, read_codes};
 use crate::compare::compare;
 use crate::head::read_file_head;
 use outside::Shelf;
@@ -32,12 +32,41 @@ pub fn check_columns<S: Shelf>(
         Ok(read) => read,
         Err(fault) => return Err(fault),
     };
-    let columns = match read_columns(alloc, shelf, table, name, &read) {
-        Ok(columns) => columns,
+    let coded = match read_codes(alloc, shelf, table, name, &read) {
+        Ok(coded) => coded,
         Err(fault) => return Err(fault),
     };
-    match compare(alloc, shelf, file, name, table, &read, &columns) {
+    let columns = decoded_columns(alloc, &coded)?;
+    match compare(alloc, shelf, file, name, table, &read, coded) {
         Ok(()) => Ok(columns),
+        Err(fault) => Err(fault),
+    }
+}
+
+/// How many rows a file is the image of under a table and a name, or the part that is wrong. The
+/// rows are not made.
+pub fn count_image<S: Shelf>(
+    alloc: Global,
+    shelf: &mut S,
+    file: &str,
+    name: &str,
+    table: &Table,
+) -> Result<u32, HeadFault>
+    requires { IsSegmentOf table.now name.now }
+    ensures { CountsImage table.now name.now file.now
+        (seen S.Shelf shelf.old) (seen S.Shelf shelf.new) result }
+{
+    let read = match read_file_head(alloc, shelf, file, name, table) {
+        Ok(read) => read,
+        Err(fault) => return Err(fault),
+    };
+    let coded = match read_codes(alloc, shelf, table, name, &read) {
+        Ok(coded) => coded,
+        Err(fault) => return Err(fault),
+    };
+    let rows = coded.rows;
+    match compare(alloc, shelf, file, name, table, &read, coded) {
+        Ok(()) => Ok(rows),
         Err(fault) => Err(fault),
     }
 }

@@ -5,23 +5,24 @@ ghost use Rattle.values.specs.Columns.{rows_of};
 ghost use Rattle.segment_file.specs.declared.fault.HeadFault.TheVariants.{NotASegment};
 ghost use Rattle.segment_file.specs.declared.part.Part.{Part};
 ghost use Rattle.segment_file.specs.Front.{extents_from};
+ghost use Rattle.segment_build.specs.Coded.{columns_in};
 ghost use Rattle.segment_build.specs.Compared.{DifferAt};
 ghost use Rattle.segment_build.specs.FileReads.{LogsFile};
 ghost use Rattle.segment_build.specs.Made.{file_bytes};
 ghost use Rattle.segment_check.specs.Calls.{OfBytes};
 ghost use Rattle.segment_check.specs.Checked as spec;
-ghost use Rattle.segment_check.specs.Reading.{ComparesImage, MayCompare};
+ghost use Rattle.segment_check.specs.Codes.{MayCompare};
+ghost use Rattle.segment_check.specs.Reading.{ComparesImage};
 
 use crate::head::FileHead;
 use outside::Shelf;
-use segment_build::{BuildFault, CompareFault, Comparing, MadeFile, make_file};
+use segment_build::{BuildFault, CodedColumns, CompareFault, Comparing, MadeFile, make_of_codes};
 use segment_file::{HeadFault, Part, front_size};
 use std::alloc::Global;
 use table_schema::Table;
-use values::Columns;
 
-/// Compares a file with this front with the image of the rows of columns, of which it is to have
-/// the bytes from the first on.
+/// Compares a file with this front with the image of the rows of coded columns, of which it is to
+/// have the bytes from the first on. The columns are let go before the trees are built.
 pub(crate) fn compare<S: Shelf>(
     alloc: Global,
     shelf: &mut S,
@@ -29,13 +30,14 @@ pub(crate) fn compare<S: Shelf>(
     name: &str,
     table: &Table,
     read: &FileHead,
-    columns: &Columns,
+    coded: CodedColumns<'_>,
 ) -> Result<(), HeadFault>
-    requires { MayCompare table.now name.now read.now columns.now }
-    ensures { ComparesImage table.now name.now file.now read.now.front (rows_of columns.now)
-        (seen S.Shelf shelf.old) (seen S.Shelf shelf.new) result }
+    requires { MayCompare table.now name.now read.now coded }
+    ensures { ComparesImage table.now name.now file.now read.now.front
+        (rows_of (columns_in coded.entry)) (seen S.Shelf shelf.old) (seen S.Shelf shelf.new)
+        result }
 {
-    let made = match make_file(alloc, table, name, columns) {
+    let made = match make_of_codes(alloc, table, name, coded) {
         Ok(made) => made,
         Err(BuildFault::TooLarge(tree)) => return Err(HeadFault::NotASegment(Part::Nodes(tree))),
         Err(BuildFault::NoMemory) => return Err(HeadFault::NoMemory),

@@ -3,14 +3,16 @@
 #![tactic(auto)]
 
 mod check;
+mod coded;
+mod codes;
 mod columns;
 mod compare;
 mod head;
 mod laws;
 mod spell;
 
-pub use check::{check_columns, check_image};
+pub use check::{check_columns, check_image, count_image};
 pub use laws::{
     fails_once_law, finds_one_law, finds_some_law, image_or_part_law, images_pass_law, one_part_law,
 };
-pub use spell::spell_columns;
+pub use spell::spell_text;

@@ -6,7 +6,7 @@ use crate::appends::appends;
 use csv_ingest::{CSV_LIMIT, read_columns};
 use memory_devices::MemoryDepot;
 use outside::{Seq, read_all};
-use segment_build::{build_columns, build_image, write_segment};
+use segment_build::{build_columns, build_image, section_lengths, write_segment};
 use segment_file::{is_segment_name, segment_file_name};
 use std::alloc::{AllocError, Global};
 use table_schema::Table;
@@ -76,6 +76,28 @@ fn is_stored(
     match read_all(alloc, &mut depot, stored.as_str(), CSV_LIMIT) {
         Ok(bytes) => Ok(bytes.as_slice() == file),
         Err(_) => Ok(false),
+    }
+}
+
+/// How long the sections of the file of these rows are, in the order of its directory.
+pub fn lengths(
+    alloc: Global,
+    table: &Table,
+    name: &str,
+    csv: &[u8],
+) -> Result<String, AllocError>
+    requires valid { IsValidTable table.now }
+{
+    if !is_segment_name(name) || csv.len() as u64 > CSV_LIMIT {
+        return String::from_str(alloc, "not tried");
+    }
+    let columns = match read_columns(alloc, &table.schema, csv) {
+        Ok(columns) => columns,
+        Err(fault) => return format!(in alloc; "{fault:?}"),
+    };
+    match section_lengths(alloc, table, name, &columns.rows(alloc)?) {
+        Ok(lengths) => format!(in alloc; "{:?}", lengths.as_slice()),
+        Err(fault) => format!(in alloc; "{fault:?}"),
     }
 }
 

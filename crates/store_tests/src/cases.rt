@@ -5,7 +5,7 @@ ghost use Rattle.table_schema.specs.ValidTable.{IsValidTable};
 
 use crate::counting::CountingShelf;
 use crate::heads::opened;
-use crate::images::checked;
+use crate::images::agreed;
 use std::alloc::{AllocError, Global};
 use table_schema::Table;
 
@@ -37,7 +37,7 @@ impl Look {
         let mut shelf = CountingShelf::new(bytes);
         match self {
             Look::Head => opened(alloc, &mut shelf, name, table),
-            Look::File => checked(alloc, &mut shelf, name, table),
+            Look::File => agreed(alloc, &mut shelf, name, table),
         }
     }
 }

@@ -57,6 +57,8 @@ fn run(rt: &HostRuntime, table: &Table, name: &str) -> io::Result<()>
     let images = fs::read_to_string(rt, format!(in alloc; "{name}.image.txt")?.as_str())?;
     let built = built::compared(alloc, table, name, rows.as_slice(), file.as_slice())?;
     println!(rt; "built: {built}")?;
+    let lengths = built::lengths(alloc, table, name, rows.as_slice())?;
+    println!(rt; "sections: {lengths}")?;
     let mut shelf = CountingShelf::new(file.clone()?);
     let costs = heads::costs(alloc, &mut shelf, name, table)?;
     println!(rt; "read: {costs}")?;

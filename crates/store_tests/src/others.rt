@@ -1,6 +1,6 @@
 //! The checks of segments that another program made, of tables with and without indexes and trees.
 use crate::counting::CountingShelf;
-use crate::images::checked;
+use crate::images::agreed;
 use crate::table_of;
 use std::{fs, io};
 
@@ -27,7 +27,7 @@ fn run_other(rt: &HostRuntime, schema: &str, name: &str) -> io::Result<()> {
     match table_of(alloc, schema.as_slice(), settings.as_slice()) {
         Some(table) => {
             let mut shelf = CountingShelf::new(file);
-            let outcome = checked(alloc, &mut shelf, "p1", &table)?;
+            let outcome = agreed(alloc, &mut shelf, "p1", &table)?;
             println!(rt; "{name}: {outcome}")
         }
         None => println!(rt; "{name}: no table"),

@@ -40,3 +40,8 @@ there_not_lacking None name Q has = tt
 there_not_lacking (Some files) name Q (bytes, got) = λ lacks.
     let no : ◌≡◌ {A = Option (List ℕ)} None (Some bytes) = sym lacks ∙ got in
     absurd cc
+
+-- what follows where files are told
+pub told_so : (held : Option Files) (P Q : Files → Type 0) → ((files : Files) → P files → Q files) → IfSome held P → IfSome held Q
+told_so None P Q f is = tt
+told_so (Some files) P Q f is = f files is

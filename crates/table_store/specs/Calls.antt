@@ -12,7 +12,7 @@ use Rattle.segment_build.specs.Publishing.{incoming}
 use Rattle.segment_file.specs.Image.{image}
 use Rattle.segment_file.specs.Names.{file_of}
 use Rattle.segment_file.specs.declared.part.Part.{Part}
-use Rattle.table_store.specs.Images.{IsNoStoredImage, IsStoredImage, SpellsNoStored, SpellsStored}
+use Rattle.table_store.specs.Images.{IsNoStoredImage, IsSpelledText, IsStoredCount, IsStoredImage, SpellsNoStored}
 use Rattle.table_store.specs.Segments.{HasRoom, HasSegment, IsFull, LacksSegment}
 use Rattle.table_store.specs.declared.fault.StoreFault.{StoreFault}
 use Rattle.table_store.specs.declared.fault.StoreFault.TheVariants.{NameTaken, NoMemory, NoSegment, NotASegment, ReadFault, TooManySegments}
@@ -42,13 +42,13 @@ IsCheckFault ReadFault = Unit {0}
 IsCheckFault NoMemory = Unit {0}
 IsCheckFault other = ⊥
 
--- the file of the segment of this name was looked at, and no other: it is of the rows that are
--- answered, or of none, or there is no such file, and nothing is read
-pub record LooksAtSegment (IsOf : Files → List (List Value) → Type 0)
+-- the file of the segment of this name was looked at, and no other: it is of what is answered, or
+-- of none, or there is no such file, and nothing is read
+pub record LooksAtSegment {A : Type 0} (IsOf : Files → A → Type 0)
     (IsOfNone : Files → Part → Type 0) (name : List ℕ) (old new : Seen)
-    (result : Result ListedColumns StoreFault) : Type 0 where
+    (result : Result A StoreFault) : Type 0 where
   pub there : OnOk result (HasSegment old.held name)
-  pub image : IfOk result (λ t. IfSome old.held (λ files. IsOf files (rows_of t)))
+  pub image : IfOk result (λ a. IfSome old.held (λ files. IsOf files a))
   pub missing : IsErrOf result NoSegment → LacksSegment old.held name
   pub refused : IfErr result (λ fault. (p : Part) → fault ≡ NotASegment p
       → HasSegment old.held name × IfSome old.held (λ files. IsOfNone files p))
@@ -57,14 +57,19 @@ pub record LooksAtSegment (IsOf : Files → List (List Value) → Type 0)
   pub log : LogsFile (file_of name) old.log new.log
   pub unread : IfSome old.held (λ files. LacksSegment (Some files) name → new.log ≡ old.log)
 
--- it was looked at whole: it is the image of the rows, or of none
+-- it was looked at whole: it is the image of the rows that are answered, or of none
 abbrev pub ChecksSegment : Table → List ℕ → Seen → Seen → Result ListedColumns StoreFault → Type 0
-ChecksSegment table name = LooksAtSegment (λ files rows. IsStoredImage table files name rows)
+ChecksSegment table name = LooksAtSegment (λ files t. IsStoredImage table files name (rows_of t))
     (λ files part. IsNoStoredImage table files name part) name
 
--- its head and its ids were looked at: it spells the rows, or none
-abbrev pub SpellsSegment : Table → List ℕ → Seen → Seen → Result ListedColumns StoreFault → Type 0
-SpellsSegment table name = LooksAtSegment (λ files rows. SpellsStored table files name rows)
+-- the same, where it is answered how many rows there are
+abbrev pub CountsSegment : Table → List ℕ → Seen → Seen → Result ℕ StoreFault → Type 0
+CountsSegment table name = LooksAtSegment (λ files count. IsStoredCount table files name count)
+    (λ files part. IsNoStoredImage table files name part) name
+
+-- its head and its ids were looked at: it spells rows whose text is answered, or none
+abbrev pub SpellsSegment : Table → List ℕ → Seen → Seen → Result (List ℕ) StoreFault → Type 0
+SpellsSegment table name = LooksAtSegment (λ files text. IsSpelledText table files name text)
     (λ files part. SpellsNoStored table files name part) name
 
 -- what a call that looks at names and lengths of files alone leaves of a depot

@@ -1,4 +1,3 @@
-use Rattle.std.proofs.Common.{◌<◌, arith}
 use Rattle.csv_text.proofs.Records.{quoted_begin, quoted_more}
 use Rattle.csv_text.proofs.field.push_quoted.Goals as goal
 

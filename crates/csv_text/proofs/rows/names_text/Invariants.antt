@@ -1,4 +1,4 @@
-use Rattle.std.proofs.Common.{◌≡◌, map, take}
+use Rattle.std.proofs.Common.{◌≡◌, take}
 use Rattle.csv.specs.Writing.{default_writer, row_body}
 use Rattle.csv_text.specs.Rows.{names_of}
 use Rattle.csv_text.proofs.rows.names_text.Given as goal

@@ -1,5 +1,4 @@
 use Rattle.std.proofs.Common.{◌+◌, length}
-use Rattle.outside.specs.Reads.{LogsUpTo}
 use Rattle.outside.proofs.ReadLemmas.{LogsFilled-through}
 use Rattle.segment_build.specs.FileReads.{file_through, file_up}
 use Rattle.segment_build.proofs.comparing.read_there.Goals as goal

@@ -1,4 +1,4 @@
-use Rattle.std.proofs.Common.{◌≡◌, ◌∙◌, ◌++◌, ◌≤◌, ◌-◌, ◌+◌, ℕ, List, Result, Ok, Err, drop, length, sym, ap, subst, arith}
+use Rattle.std.proofs.Common.{◌+◌, ℕ, List, Err, drop, subst, arith}
 use Rattle.outside.specs.Seen.{Seen, seen}
 use Rattle.state_columns.specs.Docs.{Doc}
 use Rattle.state_columns.specs.Region.{range}

@@ -1,4 +1,4 @@
-use Rattle.std.proofs.Common.{◌≤◌, ℕ, List, Result, length, ◌-◌, drop}
+use Rattle.std.proofs.Common.{◌≤◌, Result, ◌-◌, drop}
 use Rattle.outside.specs.Seen.{Seen, seen}
 use Rattle.star_file.specs.Bytes.{doc_bytes}
 use Rattle.segment_build.proofs.section.give_docs.Given as goal

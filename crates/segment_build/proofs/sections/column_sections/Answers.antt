@@ -1,45 +1,45 @@
-use Rattle.std.proofs.Common.{◌≡◌, ◌∙◌, ◌<◌, ◌≤◌, ℕ, List, length, sym, ap, subst, arith}
-use Rattle.std.specs.List.Sorted.{IsNonDecreasing}
+use Rattle.std.proofs.Common.{◌≡◌, ◌∙◌, ◌<◌, length, ap, arith}
 use Rattle.values.specs.Columns.{rows_of}
-use Rattle.value_ids.specs.Coding.{AreBelow}
 use Rattle.segment_file.specs.Ordered.{ordered}
-use Rattle.segment_build.specs.Sections.{made_of, with_column}
-use Rattle.segment_build.proofs.CodedColumns.{coded_below, coded_few, coded_more, coded_up}
+use Rattle.segment_build.specs.Arranging.{arranged}
+use Rattle.segment_build.specs.Coded.{columns_in, dictionary_of_ids}
+use Rattle.segment_build.specs.Sections.{made_of}
+use Rattle.segment_build.proofs.Codings.{coded_at, many_columns, may_push}
+use Rattle.segment_build.proofs.ColumnCodes.{coded_more}
 use Rattle.segment_build.proofs.ColumnLemmas.{made_none}
 use Rattle.segment_build.proofs.sections.column_sections.Goals as goal
 
 pub columns-init : goal.columns-init
-columns-init c = made_none c.args.table.now (ordered c.args.table.now.settings.sorted (rows_of c.args.columns.now)) _ c.in_ok-sections.ensures
+columns-init c = made_none c.args.table.now (ordered c.args.table.now.settings.sorted (rows_of (columns_in c.args.coded.now))) _ c.in_ok-sections.ensures
 
-pub push-requires-clause-at_most : goal.push-requires-clause-at_most
-push-requires-clause-at_most c =
-    let ids = c.in_ok-dictionary.ids.items in
-    subst (λ (xs : List ℕ). length xs ≤ 1048576) (sym c.as_slice.ensures.value) (coded_few c.args.table.now c.args.columns.now c.columns.at c.in_ok-dictionary.dictionary ids c.requires.rows.columns c.in_ok-dictionary.ensures)
+pub index-requires : goal.index-requires
+index-requires c = omega (arith, c.columns-test.true, c.len-count.ensures, many_columns c.args.table.now c.args.coded.now c.requires.rows)
 
-pub push-requires-clause-below : goal.push-requires-clause-below
-push-requires-clause-below c =
-    let d = c.in_ok-dictionary.dictionary in
-    subst (AreBelow (length d.values)) (sym c.as_slice.ensures.value) (coded_below c.args.table.now c.args.columns.now c.columns.at d c.in_ok-dictionary.ids.items c.in_ok-dictionary.ensures)
-
-pub push-requires-clause-ascend : goal.push-requires-clause-ascend
-push-requires-clause-ascend c = λ holds.
-    subst IsNonDecreasing (sym c.as_slice.ensures.value)
-    (coded_up c.args.table.now c.args.columns.now c.columns.at c.args.order.now c.in_ok-dictionary.dictionary c.in_ok-dictionary.ids.items c.indexes_at-indexes.result.sorted c.requires.order c.in_ok-dictionary.ensures c.indexes_at-indexes.ensures.sorted holds)
+pub push_column-requires : goal.push_column-requires
+push_column-requires c =
+    let coded = c.args.coded.now in
+    let at = c.columns.at in
+    let lt : at < length coded.columns.items = omega (arith, c.columns-test.true, c.len-count.ensures, many_columns c.args.table.now coded c.requires.rows) in
+    may_push c.args.table.now coded at c.index.result.now c.args.order.now c.indexes_at-indexes.result c.requires.rows lt c.index.ensures c.requires.order c.indexes_at-indexes.ensures.sorted
 
 pub columns-preserved : goal.columns-preserved
 columns-preserved c =
     let table = c.args.table.now in
-    let t = c.args.columns.now in
+    let coded = c.args.coded.now in
     let at = c.columns.at in
-    let d = c.in_ok-dictionary.dictionary in
-    let ids = c.in_ok-dictionary.ids.items in
-    let lt : at < length table.schema.fields = omega (arith, c.columns-test.true, c.len-count.ensures) in
-    coded_more table t at d ids c.indexes_at-indexes.result c.columns.sections _ c.requires.rows.valid lt c.in_ok-dictionary.ensures c.indexes_at-indexes.ensures.sorted c.indexes_at-indexes.ensures.inverted c.indexes_at-indexes.ensures.ranged
-    c.columns.invariant (c.in_ok-push.ensures ∙ ap (λ xs. with_column d xs c.indexes_at-indexes.result c.columns.sections) c.as_slice.ensures.value)
+    let column = c.index.result.now in
+    let order = c.args.order.now in
+    let indexes = c.indexes_at-indexes in
+    let many = many_columns table coded c.requires.rows in
+    let lt : at < length coded.columns.items = omega (arith, c.columns-test.true, c.len-count.ensures, many) in
+    let below : at < length table.schema.fields = omega (arith, lt, many) in
+    coded_more table (columns_in coded) at (dictionary_of_ids column) (arranged 0 order column.ids.items) indexes.result c.columns.sections _ c.requires.rows.of_table.valid below
+    (coded_at table coded at column order c.requires.rows lt c.index.ensures c.requires.order) indexes.ensures.sorted indexes.ensures.inverted indexes.ensures.ranged
+    c.columns.invariant c.in_ok-push_column.ensures
 
 pub returns : goal.returns
 returns c =
     let table = c.args.table.now in
-    let os = ordered table.settings.sorted (rows_of c.args.columns.now) in
+    let os = ordered table.settings.sorted (rows_of (columns_in c.args.coded.now)) in
     let end : c.columns.at ≡ length table.schema.fields = omega (arith, c.columns-test.false, c.columns.auto.at-end, c.len-count.ensures) in
     c.columns.invariant ∙ ap (made_of table os) end

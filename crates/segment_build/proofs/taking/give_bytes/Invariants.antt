@@ -1,4 +1,4 @@
-use Rattle.std.proofs.Common.{ℕ, List, Result, length}
+use Rattle.std.proofs.Common.{Result, length}
 use Rattle.outside.specs.Seen.{Seen, seen}
 use Rattle.segment_build.proofs.taking.give_bytes.Given as goal
 

@@ -8,11 +8,11 @@ use Rattle.star_file.specs.Bytes.{doc_bytes, nodes_section}
 use Rattle.values.specs.Columns.{ListedColumns, rows_of}
 use Rattle.table_schema.specs.declared.settings.TreeSetting.{TreeSetting}
 use Rattle.segment_file.specs.Trees.{TreeFits, nodes_of, star_of}
-use Rattle.segment_file.proofs.TreeChecks.{few_kinds, valid_at}
+use Rattle.segment_file.proofs.TreeChecks.{valid_at}
 use Rattle.segment_build.specs.Growing.{IsTooLarge, nodes_grown, stars_grown}
 use Rattle.segment_build.specs.Made.{each_bytes}
-use Rattle.segment_build.specs.Merging.{AreMerged, IsMerged}
-use Rattle.segment_build.proofs.CodedColumns.{in_rows}
+use Rattle.segment_build.specs.Merging.{IsMerged}
+use Rattle.segment_build.proofs.ColumnCodes.{in_rows}
 use Rattle.segment_build.proofs.Built.{tree_made}
 use Rattle.segment_build.proofs.Growing.{fits_more, grown_more}
 use Rattle.segment_build.proofs.MergeLemmas.{drop_next, zip_next}

@@ -4,6 +4,7 @@ use Rattle.outside.proofs.SeenLemmas.{reads_none}
 use Rattle.segment_file.proofs.Faults.{reads_other}
 use Rattle.segment_file.specs.declared.part.Part.TheVariants as parts
 use Rattle.segment_file.proofs.Counts.{few_sections}
+use Rattle.segment_build.specs.Coded.{columns_in}
 use Rattle.segment_build.specs.FileReads.{file_unread}
 use Rattle.segment_build.specs.Made.{file_bytes}
 use Rattle.segment_check.proofs.Sameness.{image_small}
@@ -11,7 +12,7 @@ use Rattle.segment_check.proofs.compare.compare.Goals as goal
 
 pub first_difference-requires : goal.first_difference-requires
 first_difference-requires g c =
-    image_small c.args.table.now c.args.name.now c.args.columns.now (file_bytes c.in-Ok.made) c.requires.asked.valid c.requires.asked.name c.requires.fields c.in-Ok.ensures.built.fits c.in-Ok.ensures.image
+    image_small c.args.table.now c.args.name.now (columns_in c.args.coded) (file_bytes c.in-Ok.made) c.requires.asked.valid c.requires.asked.name c.requires.fields c.in-Ok.ensures.built.fits c.in-Ok.ensures.image
 
 pub returns-in-Err-TooLarge : goal.returns-in-Err-TooLarge
 returns-in-Err-TooLarge g c =

@@ -15,11 +15,11 @@ returns-in-Err-NotASegment g c =
     let table = c.args.table.now in
     let name = c.args.name.now in
     let old : Seen = seen g.D.Shelf c.args.depot.now in
-    let new : Seen = seen g.D.Shelf c.spell_columns.new.shelf in
+    let new : Seen = seen g.D.Shelf c.spell_text.new.shelf in
     let is : c.as_str.result.now ≡ file_of name = c.as_str.ensures.value ∙ c.in_ok-file.ensures in
     let part : Part = c.in-Err-NotASegment.part in
     let fails = c.in-Err-NotASegment.field-0-is in
-    let e = c.in-Err-NotASegment.ensures.spells in
+    let e = c.in-Err-NotASegment.ensures in
     let wrong = subst (λ f. IfSome old.held (λ files. SpellsNone table name (bytes_of (Some files) f) part)) is (e.refused part fails) in
     record {
       there = tt;

@@ -1,0 +1,89 @@
+use Rattle.std.proofs.Common.{◌≡◌, ◌∙◌, [], length, Err, IfSome, refl, sym, ap, subst, arith}
+use Rattle.outside.specs.Seen.{seen}
+use Rattle.outside.proofs.SeenLemmas.{reads_so}
+use Rattle.bit_column.specs.Column.{width_of}
+use Rattle.bit_column.specs.Sections.{AppendsRange, Readable, section}
+use Rattle.csv_text.specs.Coded.{ids_of, values_of}
+use Rattle.value_ids.specs.Coding.{AreBelow, values_at}
+use Rattle.segment_file.specs.declared.part.Part.TheVariants as parts
+use Rattle.segment_build.specs.FileReads.{LogsFile, file_up}
+use Rattle.segment_check.proofs.ColumnLemmas.{column_bad, column_made}
+use Rattle.segment_check.proofs.HeadLemmas.{placed_in, range_read}
+use Rattle.segment_check.proofs.coded.read_coded_column.Goals as goal
+
+pub returns-in-Ok-clause-reads : goal.returns-in-Ok-clause-reads
+returns-in-Ok-clause-reads g c =
+    let old = seen g.S.Shelf c.args.shelf.now in
+    let new = seen g.S.Shelf c.read_ids.new.shelf in
+    let head = c.args.head.now in
+    let column = c.args.column in
+    let place = c.in-Some.place.now in
+    let own = c.dictionary-dictionary.result.now in
+    let count = c.count.result in
+    let kept = c.in-Ok.ids in
+    let e : AppendsRange old.held place (width_of count) count 0 head.rows [] (ids_of kept) =
+    subst (λ rows. AppendsRange old.held place (width_of count) count 0 rows [] (ids_of kept)) c.rows.ensures c.in-Ok.ensures.ids in
+    let values = c.values_in.ensures in
+    let below : AreBelow (length own.values) e.ids = subst (λ n. AreBelow n e.ids) c.count.ensures.count e.below in
+    let many : length e.ids ≡ head.rows = omega (arith, e.number) in
+    record {
+      coded = record {
+        count = ap length e.appended ∙ many;
+        below = subst (λ vs. AreBelow (length vs) (ids_of kept)) (sym values) (subst (AreBelow (length own.values)) (sym e.appended) below);
+      };
+      column_is = λ d asked.
+          column_made old.held head column place own d (width_of count) count e.ids (values_at (values_of c.values_in.result) (ids_of kept)) c.in-Some.ensures c.dictionary-dictionary.ensures asked c.count.ensures.count refl e.number e.below e.told
+          (ap (λ vs. values_at vs (ids_of kept)) values ∙ ap (values_at own.values) e.appended);
+      refused = tt;
+      only_reads = reads_so _ _ old new (λ err. absurd cc) (λ err. absurd cc) c.in-Ok.ensures.reads.only_reads;
+    }
+
+pub returns-in-Err-BadId-clause-reads : goal.returns-in-Err-BadId-clause-reads
+returns-in-Err-BadId-clause-reads g c =
+    let old = seen g.S.Shelf c.args.shelf.now in
+    let new = seen g.S.Shelf c.read_ids.new.shelf in
+    let head = c.args.head.now in
+    let column = c.args.column in
+    let place = c.in-Some.place.now in
+    let own = c.dictionary-dictionary.result.now in
+    let count = c.count.result in
+    let bad = c.in-Err-BadId.ensures.reads.bad (ap Err c.in-Err-BadId.field-0-is) in
+    record {
+      coded = tt;
+      column_is = tt;
+      refused = λ p is. (
+        cc,
+        λ d asked.
+            column_bad old.held head column place own d (width_of count) count c.in-Some.ensures c.dictionary-dictionary.ensures asked c.count.ensures.count refl
+            (subst (λ rows. IfSome old.held (λ files. ¬ Readable (width_of count) count 0 rows (section files place))) c.rows.ensures bad),
+      );
+      only_reads = reads_so _ _ old new (λ err. absurd cc) (λ err. absurd (cc c.in-Err-BadId.field-0-is)) c.in-Err-BadId.ensures.reads.only_reads;
+    }
+
+pub returns-in-Ok-clause-log : goal.returns-in-Ok-clause-log
+returns-in-Ok-clause-log g c = λ file within.
+    let place = c.in-Some.place.now in
+    let first = g.S.Shelf.log c.args.shelf.now in
+    let now = g.S.Shelf.log c.read_ids.new.shelf in
+    subst (λ f. LogsFile f first now) (placed_in file c.args.head.now.sections (parts.Forward c.args.column) within place (sym c.in-Some.ensures)) (range_read place.file _ _ first now c.in-Ok.ensures.reads.log)
+
+pub returns-in-Err-BadId-clause-log : goal.returns-in-Err-BadId-clause-log
+returns-in-Err-BadId-clause-log g c = λ file within.
+    let place = c.in-Some.place.now in
+    let first = g.S.Shelf.log c.args.shelf.now in
+    let now = g.S.Shelf.log c.read_ids.new.shelf in
+    subst (λ f. LogsFile f first now) (placed_in file c.args.head.now.sections (parts.Forward c.args.column) within place (sym c.in-Some.ensures)) (file_up place.file _ _ first now c.in-Err-BadId.ensures.reads.log_of_fault)
+
+pub returns-in-Err-ReadFault-clause-log : goal.returns-in-Err-ReadFault-clause-log
+returns-in-Err-ReadFault-clause-log g c = λ file within.
+    let place = c.in-Some.place.now in
+    let first = g.S.Shelf.log c.args.shelf.now in
+    let now = g.S.Shelf.log c.read_ids.new.shelf in
+    subst (λ f. LogsFile f first now) (placed_in file c.args.head.now.sections (parts.Forward c.args.column) within place (sym c.in-Some.ensures)) (file_up place.file _ _ first now c.in-Err-ReadFault.ensures.reads.log_of_fault)
+
+pub returns-in-Err-NoMemory-clause-log : goal.returns-in-Err-NoMemory-clause-log
+returns-in-Err-NoMemory-clause-log g c = λ file within.
+    let place = c.in-Some.place.now in
+    let first = g.S.Shelf.log c.args.shelf.now in
+    let now = g.S.Shelf.log c.read_ids.new.shelf in
+    subst (λ f. LogsFile f first now) (placed_in file c.args.head.now.sections (parts.Forward c.args.column) within place (sym c.in-Some.ensures)) (file_up place.file _ _ first now c.in-Err-NoMemory.ensures.reads.log_of_fault)

@@ -1,0 +1,135 @@
+//! The columns of a file are read by the ids of their values.
+ghost use Rattle.std.specs.Prelude.{◌≡◌, ◌<◌, ◌++◌, ◌∷◌, [], ℕ, List, IfOk, IsSome, OnOk, length};
+ghost use Rattle.outside.specs.Seen.{seen};
+ghost use Rattle.bit_column.specs.Column.{width_of};
+ghost use Rattle.bit_column.specs.Reading.{ReadsRange};
+ghost use Rattle.bit_column.specs.Sections.{AppendsRange};
+ghost use Rattle.csv_text.specs.Coded.{ids_of, values_of};
+ghost use Rattle.segment_file.specs.declared.part.Part.TheVariants as part;
+ghost use Rattle.segment_build.specs.FileReads.{LogsFile};
+ghost use Rattle.segment_head.specs.Heads.{AreIn, IsLoaded, place_in};
+ghost use Rattle.segment_check.specs.Coded.{ReadsCoded, ReadsCodedColumn};
+ghost use Rattle.segment_check.specs.Reading.{IsSomeHead};
+
+use crate::head::FileHead;
+use bit_column::{ColumnFault, IdRange, Width, append_narrow, append_range, width_for};
+use csv_text::{CodedColumn, ColumnValues, RowIds};
+use dictionary::Dictionary;
+use outside::{NoMemory, Place, Shelf};
+use segment_file::{HeadFault, Part};
+use segment_head::Head;
+use std::alloc::Global;
+use table_schema::Table;
+
+/// The columns of the rows of a file with this head, by ids, or the first whose forward index has
+/// no id of one of its values for each row.
+pub(crate) fn read_coded<'a, S: Shelf>(
+    alloc: Global,
+    shelf: &mut S,
+    table: &Table,
+    name: &str,
+    read: &'a FileHead,
+) -> Result<Vec<CodedColumn<'a>>, HeadFault>
+    requires { IsSomeHead table.now name.now read.now }
+    ensures { ReadsCoded (λ columns. columns.items) table.now read.now.head
+        (seen S.Shelf shelf.old) (seen S.Shelf shelf.new) result }
+{
+    let count = table.schema.fields.len();
+    let mut columns = Vec::new(alloc);
+    'columns: for at in 0..count {
+        match read_coded_column(alloc, shelf, &read.head, at as u16) {
+            Ok(column) => {
+                if let Err(_) = keep(column, &mut columns) {
+                    return Err(HeadFault::NoMemory);
+                }
+            }
+            Err(fault) => return Err(fault),
+        }
+    }
+    Ok(columns)
+}
+
+fn keep<'a>(column: CodedColumn<'a>, columns: &mut Vec<CodedColumn<'a>>) -> Result<(), NoMemory>
+    ensures { OnOk result (columns.new.items ≡ columns.old.items ++ column.entry ∷ []) }
+{
+    columns.push(column)?;
+    Ok(())
+}
+
+// A column, whose values are those of its dictionary.
+fn read_coded_column<'a, S: Shelf>(
+    alloc: Global,
+    shelf: &mut S,
+    head: &'a Head,
+    column: u16,
+) -> Result<CodedColumn<'a>, HeadFault>
+    requires loaded { IsLoaded head.now column }
+    requires placed { IsSome (place_in head.now.sections (part.Forward column)) }
+    ensures reads { ReadsCodedColumn head.now column
+        (seen S.Shelf shelf.old) (seen S.Shelf shelf.new) result }
+    ensures log { (file : List ℕ) → AreIn file head.now.sections
+        → LogsFile file (S.log shelf.old) (S.log shelf.new) }
+{
+    let Some(place) = head.place(Part::Forward(column)) else {
+        unreachable!();
+    };
+    let dictionary = head.dictionary(column);
+    match read_ids(alloc, shelf, place, dictionary.count(), head.rows()) {
+        Ok(ids) => Ok(CodedColumn {
+            values: values_in(dictionary),
+            ids,
+        }),
+        Err(ColumnFault::BadId) => Err(HeadFault::NotASegment(Part::Forward(column))),
+        Err(ColumnFault::ReadFault) => Err(HeadFault::ReadFault),
+        Err(ColumnFault::NoMemory) => Err(HeadFault::NoMemory),
+    }
+}
+
+// The values of a dictionary where they lie. One without any may be of either sort.
+fn values_in(dictionary: &Dictionary) -> ColumnValues<'_>
+    ensures { values_of result ≡ dictionary.now.values }
+{
+    if let Some(numbers) = dictionary.numbers() {
+        return ColumnValues::Numbers(numbers);
+    }
+    match dictionary.texts() {
+        Some(texts) => ColumnValues::Texts(texts),
+        None => ColumnValues::Numbers(&[]),
+    }
+}
+
+// The ids of the rows in a column of so many values.
+fn read_ids<S: Shelf>(
+    alloc: Global,
+    shelf: &mut S,
+    place: &Place,
+    count: u32,
+    rows: u32,
+) -> Result<RowIds, ColumnFault>
+    ensures ids { IfOk result (λ ids. AppendsRange (S.held shelf.old) place.now
+        (width_of count) count 0 rows [] (ids_of ids)) }
+    ensures reads { ReadsRange result place.now (width_of count) count 0 rows
+        (seen S.Shelf shelf.old) (seen S.Shelf shelf.new) }
+{
+    let range = IdRange {
+        width: Width {
+            bits: width_for(count),
+        },
+        count,
+        from: 0,
+        to: rows,
+    };
+    let mut buffer = Vec::new(alloc);
+    if range.width.bits <= 16 {
+        let mut ids = Vec::new(alloc);
+        return match append_narrow(alloc, shelf, place, range, &mut buffer, &mut ids) {
+            Ok(()) => Ok(RowIds::Narrow(ids)),
+            Err(fault) => Err(fault),
+        };
+    }
+    let mut ids = Vec::new(alloc);
+    match append_range(alloc, shelf, place, range, &mut buffer, &mut ids) {
+        Ok(()) => Ok(RowIds::Wide(ids)),
+        Err(fault) => Err(fault),
+    }
+}
