@@ -8,7 +8,7 @@ ghost use Rattle.broker_merge.specs.Rank.{AreFair, HasGroup, IsItem, IsOrderOf, 
 ghost use Rattle.broker_merge.specs.Ranked.{AreRanked, BeginInOrder};
 
 use crate::rank::{Place, Rank};
-use group_table::GroupTable;
+use group_table::GroupsIn;
 use std::alloc::Global;
 use table_schema::{Item, OrderKey};
 use values::NoMemory;
@@ -17,7 +17,7 @@ use values::NoMemory;
 /// chosen before they are sorted.
 pub fn ordered(
     alloc: Global,
-    table: &GroupTable,
+    table: &GroupsIn<'_>,
     order: &[OrderKey],
     most: u128,
 ) -> Result<Vec<u32>, NoMemory>
@@ -38,7 +38,7 @@ pub fn ordered(
 }
 
 // What a group shows at an item.
-fn rank_at<'a>(table: &'a GroupTable, at: u32, item: Item) -> Rank<'a>
+fn rank_at<'a>(table: &'a GroupsIn<'_>, at: u32, item: Item) -> Rank<'a>
     requires group { HasGroup table.now at }
     requires item { IsItem table.now item }
     ensures shown { seen_of result ≡ seen_at (group_at table.now at) item }
@@ -52,7 +52,7 @@ fn rank_at<'a>(table: &'a GroupTable, at: u32, item: Item) -> Rank<'a>
 
 // Adds what a group is compared by.
 fn push_places<'a>(
-    table: &'a GroupTable,
+    table: &'a GroupsIn<'_>,
     at: u32,
     order: &[OrderKey],
     places: &mut Vec<Place<'a>>,
@@ -72,7 +72,7 @@ fn push_places<'a>(
 // What the groups are compared by, one after the other.
 fn all_places<'a>(
     alloc: Global,
-    table: &'a GroupTable,
+    table: &'a GroupsIn<'_>,
     order: &[OrderKey],
 ) -> Result<Vec<Place<'a>>, NoMemory>
     requires of_table { IsOrderOf table.now order.now }

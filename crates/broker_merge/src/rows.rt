@@ -4,6 +4,7 @@ ghost use Rattle.std.specs.Prelude.{◌≡◌, ◌<◌, ◌≤◌, IfOk, length,
 ghost use Rattle.std.specs.FinMap as finite;
 ghost use Rattle.std.specs.List.{All, range_with_len};
 ghost use Rattle.group_table.specs.Kept.{IsTable, IsTableOf, group_at, groups_in};
+ghost use Rattle.group_table.specs.Pooled.{IsTableIn, in_pool};
 ghost use Rattle.group_table.specs.Shape.{shape_of};
 ghost use Rattle.broker_merge.specs.Rank.{HasGroup, IsItem};
 ghost use Rattle.broker_merge.specs.Ranked.{BeginInOrder};
@@ -15,14 +16,36 @@ use crate::ordered;
 use crate::stretch::written_of;
 use agg_laws::AggState;
 use data_types::{Name, Seq};
-use group_table::GroupTable;
+use group_table::{GroupTable, GroupsIn, SlotPool};
 use std::alloc::Global;
 use table_schema::{BoundQuery, Item};
 use values::NoMemory;
 
 /// The answer of a query over the groups of its table: in order, those that are passed over left
 /// out, and no more than the query asks for.
-pub fn finish(alloc: Global, table: &GroupTable, query: &BoundQuery) -> Result<Answer, NoMemory>
+pub fn finish(
+    alloc: Global,
+    table: &GroupTable,
+    pool: &SlotPool,
+    query: &BoundQuery,
+) -> Result<Answer, NoMemory>
+    requires pooled { IsTableIn table.now pool.now }
+    requires table { IsTableOf query.now (in_pool table.now pool.now) }
+    requires places { NamesPlaces query.now }
+    ensures answer { IfOk result (λ answer.
+        answer ≡ spec.answer_of (shape_of query.now) (groups_in (in_pool table.now pool.now))) }
+    ensures at_most { finite.len (groups_in (in_pool table.now pool.now)) ≤ table.now.most }
+{
+    let groups = GroupsIn::new(table, pool);
+    finish_groups(alloc, &groups, query)
+}
+
+// The same of groups that are read.
+fn finish_groups(
+    alloc: Global,
+    table: &GroupsIn<'_>,
+    query: &BoundQuery,
+) -> Result<Answer, NoMemory>
     requires table { IsTableOf query.now table.now }
     requires places { NamesPlaces query.now }
     ensures answer { IfOk result (λ answer.
@@ -40,7 +63,7 @@ pub fn finish(alloc: Global, table: &GroupTable, query: &BoundQuery) -> Result<A
 // The places of the first so many groups in order. Fewer than two are in order as they are.
 fn first_in_order(
     alloc: Global,
-    table: &GroupTable,
+    table: &GroupsIn<'_>,
     query: &BoundQuery,
     most: u128,
 ) -> Result<Vec<u32>, NoMemory>
@@ -84,7 +107,7 @@ fn copy_labels(alloc: Global, labels: &[Name]) -> Result<Seq<Name>, NoMemory>
 // What is written of the groups at these places.
 fn rows_of(
     alloc: Global,
-    table: &GroupTable,
+    table: &GroupsIn<'_>,
     places: &[u32],
     items: &[Item],
 ) -> Result<Seq<Seq<Cell>>, NoMemory>
@@ -102,7 +125,12 @@ fn rows_of(
 }
 
 // What is written of a group.
-fn row_of(alloc: Global, table: &GroupTable, at: u32, items: &[Item]) -> Result<Seq<Cell>, NoMemory>
+fn row_of(
+    alloc: Global,
+    table: &GroupsIn<'_>,
+    at: u32,
+    items: &[Item],
+) -> Result<Seq<Cell>, NoMemory>
     requires group { HasGroup table.now at }
     requires items { All (IsItem table.now) items.now }
     ensures { IfOk result (λ row. row
@@ -116,7 +144,7 @@ fn row_of(alloc: Global, table: &GroupTable, at: u32, items: &[Item]) -> Result<
 }
 
 // What is written of a group in one column.
-fn cell_at(alloc: Global, table: &GroupTable, at: u32, item: Item) -> Result<Cell, NoMemory>
+fn cell_at(alloc: Global, table: &GroupsIn<'_>, at: u32, item: Item) -> Result<Cell, NoMemory>
     requires group { HasGroup table.now at }
     requires item { IsItem table.now item }
     ensures { IfOk result (λ cell. cell ≡ spec.item_cell (group_at table.now at) item) }

@@ -4,6 +4,7 @@ ghost use Rattle.std.specs.Prelude.{◌-◌};
 ghost use Rattle.agg_laws.specs.Numbers.{most_values};
 ghost use Rattle.values.specs.Columns.{rows_of};
 ghost use Rattle.group_table.specs.Kept.{IsTableOf, groups_in};
+ghost use Rattle.group_table.specs.Pooled.{IsTableIn, StaysIn, in_pool};
 ghost use Rattle.scan_engine.specs.Scanned.{HaveAtMost, selected};
 ghost use Rattle.coded_columns.specs.Coded.{table_of};
 ghost use Rattle.coded_scan.specs.Added.{AddsOrFills};
@@ -14,7 +15,7 @@ use crate::filtered_rows::FilteredRows;
 use crate::keyed_scan::keyed_of;
 use crate::merging::merge_keys;
 use coded_columns::SegmentColumns;
-use group_table::{GroupTable, TableFault};
+use group_table::{GroupTable, SlotPool, TableFault};
 use segment_plan::IndexChoice;
 use std::alloc::Global;
 use table_schema::BoundQuery;
@@ -27,12 +28,16 @@ pub fn add_coded(
     choices: &[IndexChoice],
     segment: &SegmentColumns<'_>,
     table: &mut GroupTable,
+    pool: &mut SlotPool,
 ) -> Result<(), TableFault>
-    requires table { IsTableOf query.now table.old }
-    requires fits { HaveAtMost (most_values - segment.now.count) (groups_in table.old) }
-    ensures { AddsOrFills query.now segment.now.count
+    requires pooled { IsTableIn table.old pool.old }
+    requires table { IsTableOf query.now (in_pool table.old pool.old) }
+    requires fits { HaveAtMost (most_values - segment.now.count) (groups_in (in_pool table.old
+        pool.old)) }
+    ensures adds { AddsOrFills query.now segment.now.count
         (selected (rest_of query.now choices.now) (rows_of (table_of segment.now)))
-        table.old table.new result }
+        (in_pool table.old pool.old) (in_pool table.new pool.new) result }
+    ensures stays { StaysIn table.old pool.old table.new pool.new }
 {
     let row_filters = row_filters_of(alloc, segment, query.conjuncts.as_slice(), choices)?;
     let rows = FilteredRows {
@@ -40,5 +45,5 @@ pub fn add_coded(
         row_filters: row_filters.as_slice(),
     };
     let keyed = keyed_of(alloc, query, rows)?;
-    merge_keys(alloc, query, rows, &keyed, table)
+    merge_keys(alloc, query, rows, &keyed, table, pool)
 }

@@ -5,6 +5,7 @@ ghost use Rattle.agg_laws.specs.Numbers.{most_values};
 ghost use Rattle.values.specs.Columns.{row_of};
 ghost use Rattle.group_table.specs.Groups.{key_of};
 ghost use Rattle.group_table.specs.Kept.{IsTableOf, groups_in};
+ghost use Rattle.group_table.specs.Pooled.{IsTableIn, StaysIn, in_pool};
 ghost use Rattle.table_schema.specs.Conditions.{cell};
 ghost use Rattle.scan_engine.specs.Scanned.{HaveAtMost};
 ghost use Rattle.coded_columns.specs.Coded.{table_of};
@@ -14,7 +15,7 @@ ghost use Rattle.coded_scan.specs.Passed.{MayMerge, passed, passed_rows, run_of}
 
 use crate::filtered_rows::FilteredRows;
 use coded_columns::{KeyedRows, SegmentColumns};
-use group_table::{GroupTable, TableFault};
+use group_table::{GroupTable, SlotPool, TableFault};
 use std::alloc::Global;
 use table_schema::BoundQuery;
 use values::{NoMemory, Row, Value};
@@ -26,17 +27,21 @@ pub fn merge_keys(
     rows: FilteredRows<'_, '_>,
     keyed: &KeyedRows,
     table: &mut GroupTable,
+    pool: &mut SlotPool,
 ) -> Result<(), TableFault>
-    requires table { IsTableOf query.now table.old }
-    requires fits { HaveAtMost (most_values - rows.segment.now.count) (groups_in table.old) }
+    requires pooled { IsTableIn table.old pool.old }
+    requires table { IsTableOf query.now (in_pool table.old pool.old) }
+    requires fits { HaveAtMost (most_values - rows.segment.now.count) (groups_in (in_pool table.old
+        pool.old)) }
     requires holds { HoldsRows rows.segment.now query.now.groups query.now.aggs (passed rows)
         keyed.now }
-    ensures { AddsOrFills query.now rows.entry.segment.now.count (passed_rows rows.entry)
-        table.old table.new result }
+    ensures adds { AddsOrFills query.now rows.entry.segment.now.count (passed_rows rows.entry)
+        (in_pool table.old pool.old) (in_pool table.new pool.new) result }
+    ensures stays { StaysIn table.old pool.old table.new pool.new }
 {
     let mut values = Vec::with_capacity(alloc, query.groups.as_slice().len())?;
     for key in 0..keyed.firsts.len() {
-        match merge_key(alloc, query, rows, keyed, key, values, table) {
+        match merge_key(alloc, query, rows, keyed, key, values, table, pool) {
             Ok(next) => values = next,
             Err(fault) => return Err(fault),
         }
@@ -54,14 +59,18 @@ fn merge_key(
     key: usize,
     values: Vec<Value>,
     table: &mut GroupTable,
+    pool: &mut SlotPool,
 ) -> Result<Vec<Value>, TableFault>
-    requires table { IsTableOf query.now table.old }
+    requires pooled { IsTableIn table.old pool.old }
+    requires table { IsTableOf query.now (in_pool table.old pool.old) }
     requires key { key < length keyed.now.firsts.items }
-    requires may { MayMerge query.now rows keyed.now key table.old }
-    ensures { (keys : List ℕ) → HoldsKeys rows.entry.segment.now query.now.groups query.now.aggs
+    requires may { MayMerge query.now rows keyed.now key (in_pool table.old pool.old) }
+    ensures adds { (keys : List ℕ) → HoldsKeys rows.entry.segment.now query.now.groups
+        query.now.aggs
         keys (passed rows.entry) keyed.now
         → AddsOrFills query.now (length (run_of rows.entry keys key)) (run_of rows.entry keys key)
-        table.old table.new result }
+        (in_pool table.old pool.old) (in_pool table.new pool.new) result }
+    ensures stays { StaysIn table.old pool.old table.new pool.new }
 {
     let first = keyed.firsts[key];
     if first == 0 {
@@ -70,7 +79,7 @@ fn merge_key(
     let columns = query.groups.as_slice();
     let own = key_at(alloc, rows.segment, columns, first as usize - 1, values)?;
     let states = keyed.states_at(alloc, key)?;
-    if let Err(fault) = table.merge_row(alloc, &own, &states) {
+    if let Err(fault) = table.merge_row(alloc, pool, &own, &states) {
         return Err(fault);
     }
     Ok(own.into_vec())

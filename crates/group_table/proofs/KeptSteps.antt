@@ -26,9 +26,10 @@ use Rattle.group_table.specs.Shape.{Shape, shape_of}
 use Rattle.state_columns.proofs.ValueSteps.{kinds_row}
 use Rattle.state_columns.proofs.RegionSteps.{kinds_merged}
 use Rattle.state_columns.proofs.RowPlaces.{length-kinds_of}
-use Rattle.group_table.specs.Groups.{Group, Groups, groups_of, states_of, key_order, with_states, merged_in}
+use Rattle.group_table.specs.Groups.{Group, Groups, groups_of, has_key, states_of, key_order, with_states, merged_in}
+use Rattle.std.specs.List.{filter}
 use Rattle.group_table.specs.Kept.{KeptGroups, groups_in, key_eq, HaveValues, IsGroup, IsTable, Merges, IsNew, IsNewKey, group_at}
-use Rattle.group_table.proofs.KeptLemmas.{get_lookup, inserted, len_once, each_set, each_push, each_found}
+use Rattle.group_table.proofs.KeptLemmas.{key_total, get_lookup, inserted, len_once, each_set, each_push, each_found}
 
 -- ---- values that states stand for
 
@@ -265,3 +266,10 @@ group_in t at table lt = All-from_recursion (IsGroup t.columns t.kinds) t.groups
 pub state_in : (columns : ℕ) (kinds : List AggKind) (group : Group) (agg : ℕ) (states : List AggState) → IsGroup columns kinds group → group.1 ≡ states → agg < length kinds → agg < length states
 state_in columns kinds group agg states g is in' = let len : length kinds ≡ length states = sym (ap length g.states) ∙ length-kinds_of group.1 ∙ ap length is in
     omega (arith, len, in')
+
+-- without group columns there is one group
+pub one_group : (shape : Shape) (rows : List (List Value)) → nat_eq (length shape.groups) 0 ≡ true → finite.len (groups_of shape rows) ≡ 1
+one_group shape rows e = ap (λ groups. finite.len (finite.from_entries {R = key_order} (map (λ k. (k, states_of shape.aggs (filter (has_key shape.groups k) rows))) (of_rows.keys_of groups rows)))) (keys_whole shape.groups e)
+    ∙ finite.len-insert key_total finite.empty [] (states_of shape.aggs (filter (has_key shape.groups []) rows))
+    ∙ ap (λ (o : Option (List AggState)). cond (is_some o) (finite.len {X = List AggState} {R = key_order} finite.empty) (finite.len {X = List AggState} {R = key_order} finite.empty + 1)) (finite.get-empty key_order [])
+    ∙ ap (λ n. n + 1) (finite.len-empty key_order (List AggState))

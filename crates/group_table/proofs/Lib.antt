@@ -1,3 +1,5 @@
 pub mod KeptLemmas
 mod KeptSteps
 pub mod GroupsLemmas
+pub mod SlotFrames
+mod PooledSteps

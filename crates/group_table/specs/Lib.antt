@@ -1,3 +1,5 @@
 pub mod Shape
 pub mod Groups
 pub mod Kept
+pub mod Pooled
+pub mod QueryPool

@@ -2,9 +2,14 @@
 #![tactic(auto)]
 
 mod fault;
+mod groups_in;
 mod laws;
+mod query_pool;
 mod table;
 
 pub use fault::TableFault;
+pub use groups_in::GroupsIn;
 pub use laws::{adds_law, groups_law};
+pub use query_pool::pool_for;
+pub use state_pool::SlotPool;
 pub use table::GroupTable;

@@ -1,172 +1,170 @@
-//! Tables of groups.
+//! Tables of groups whose states are in a pool.
 
 ghost use Rattle.std.specs.Prelude.{◌≡◌, ◌<◌, ◌≤◌, ◌↔◌, ◌∷◌, [], length, map, slice_get};
-ghost use Rattle.std.specs.Prelude.{Some, None, Err, OnOk, OnErr, IfOk, is_some, true, false};
+ghost use Rattle.std.specs.Prelude.{Some, None, Err, OnOk, OnErr, IfOk};
+ghost use Rattle.std.specs.Map.{lookup};
 ghost use Rattle.std.specs.FinMap as finite;
 ghost use Rattle.agg_laws.specs.Numbers.{most_values};
 ghost use Rattle.agg_laws.specs.Rows.{row_of, kinds_of, RowFits};
+ghost use Rattle.state_pool.specs.Pool.{Place, Pool, kinds_at, quota_of, held};
 ghost use Rattle.group_table.specs.declared.fault.TableFault.TheVariants.{TooManyGroups, NoMemory};
 ghost use Rattle.group_table.specs.Groups.{with_states};
-ghost use Rattle.group_table.specs.Kept.{IsGroup, IsTable, IsNew, IsNewKey, Merges};
-ghost use Rattle.group_table.specs.Kept.{groups_in, group_at, HaveValues};
+ghost use Rattle.group_table.specs.Kept.{IsNewKey, HaveValues, Merges, group_at, groups_in, key_eq};
+ghost use Rattle.group_table.specs.Pooled.{Finds, HoldsAll, IsNewIn, IsTableIn, KeepsOthers};
+ghost use Rattle.group_table.specs.Pooled.{StaysIn, Starts, in_pool, slot_at};
 
 use crate::fault::TableFault;
-use agg_laws::{AggState, Kinds};
+use agg_laws::AggState;
 use indexmap::IndexMap;
 use state_columns::StateRow;
+use state_pool::{Slot, SlotPool};
 use std::alloc::Global;
 use std::marker::Model;
-use table_schema::{Agg, BoundQuery};
+use table_schema::BoundQuery;
 use values::{NoMemory, Row, copy_row};
 
-/// The groups of a query: to each key the aggregates of its rows. Each group has a place.
+/// The groups of a query: to each key the aggregates of its rows, in a slot of a pool. Each group
+/// has a place.
 #[derive(Drop)]
 pub struct GroupTable {
     columns: usize,
-    kinds: Kinds,
+    owner: u16,
     most: u32,
-    groups: IndexMap<Row, StateRow>,
+    slots: IndexMap<Row, Slot>,
 }
 
 impl Model for GroupTable {
-    ghost use Rattle.group_table.specs.Kept.{KeptGroups, IsTable};
+    ghost use Rattle.std.specs.Prelude.{◌<◌, ◌≤◌, ◌^◌, length};
+    ghost use Rattle.group_table.specs.Pooled.{PooledTable};
 
-    ghost Value = { KeptGroups };
+    ghost Value = { PooledTable };
 
     ghost view = { λ t. record {
       columns = t.columns;
-      kinds = t.kinds;
+      owner = t.owner;
       most = t.most;
-      groups = t.groups.entries;
+      slots = t.slots.entries;
     } };
 
-    ghost invariant = { λ t. IsTable (record {
-      columns = t.columns;
-      kinds = t.kinds;
-      most = t.most;
-      groups = t.groups.entries;
-    }) };
-}
-
-/// The kinds of aggregates.
-fn kinds_in(alloc: Global, aggs: &[Agg]) -> Result<Kinds, NoMemory>
-    ensures { IfOk result (λ kinds. kinds ≡ map (λ agg. agg.kind) aggs.now) }
-{
-    let mut kinds = Kinds::new(alloc);
-    for agg in aggs {
-        kinds.push(agg.kind)?;
-    }
-    Ok(kinds)
-}
-
-/// The states of one row of numbers.
-fn one_row(alloc: Global, kinds: &Kinds, values: &[i64]) -> Result<StateRow, NoMemory>
-    requires values { length values.now ≡ length kinds.now }
-    requires fits { RowFits (row_of kinds.now (values.now ∷ [])) most_values }
-    ensures { IfOk result (λ states. states ≡ row_of kinds.now (values.now ∷ [])) }
-{
-    let mut states = StateRow::units(alloc, kinds)?;
-    states.add(values);
-    Ok(states)
+    ghost invariant = { λ t. (length t.slots.entries ≤ t.most) × (t.most < 2 ^ 32) };
 }
 
 impl GroupTable {
-    /// A table for the groups of a query, of which there may be so many. Without group columns
-    /// there is one group from the start.
-    pub fn new(alloc: Global, query: &BoundQuery, most: u32) -> Result<GroupTable, NoMemory>
-        requires { 1 ≤ most }
-        ensures { IfOk result (IsNew query.now most) }
+    /// A table for the groups of a query, whose states are in slots of an owner of a pool. There
+    /// may be as many groups as the owner may hold slots. Without group columns there is one group
+    /// from the start.
+    pub fn new(
+        alloc: Global,
+        query: &BoundQuery,
+        pool: &mut SlotPool,
+        owner: u16,
+    ) -> Result<GroupTable, NoMemory>
+        requires owner { owner < length pool.old.quotas }
+        requires kinds { kinds_at pool.old owner ≡ map (λ agg. agg.kind) query.now.aggs }
+        requires none { held pool.old owner ≡ 0 }
+        requires some { 1 ≤ quota_of pool.old owner }
+        ensures ok { IfOk result (IsNewIn query.now owner pool.old pool.new) }
+        ensures keeps { KeepsOthers owner pool.old pool.new }
+        ensures err { OnErr result (pool.new ≡ pool.old) }
     {
-        let kinds = kinds_in(alloc, query.aggs.as_slice())?;
         let mut table = GroupTable {
             columns: query.groups.len(),
-            kinds,
-            most,
-            groups: IndexMap::new(alloc),
+            owner,
+            most: pool.quota(owner),
+            slots: IndexMap::new(alloc),
         };
         if !query.groups.is_empty() {
             return Ok(table);
         }
-        let states = StateRow::units(alloc, &table.kinds)?;
-        table.start(Row::new(alloc), states)?;
+        let key = Row::new(alloc);
+        table.start(alloc, pool, &key)?;
         Ok(table)
     }
 
-    /// Whether there are as many groups as there may be.
-    fn is_full(&self) -> bool
-        ensures full { result ≡ true → finite.len (groups_in self.now) ≡ self.now.most }
-        ensures room { result ≡ false → finite.len (groups_in self.now) < self.now.most }
+    /// A group without values, of a new key. There is room for it.
+    fn start(&mut self, alloc: Global, pool: &mut SlotPool, key: &Row) -> Result<(), NoMemory>
+        requires holds { HoldsAll self.old pool.old }
+        requires room { length self.old.slots < self.old.most }
+        requires absent { lookup (key_eq key.now) self.old.slots ≡ None }
+        ensures ok { OnOk result ((slot : Place)
+            × Starts key.now slot self.old pool.old self.new pool.new) }
+        ensures err { OnErr result ((self.new ≡ self.old) × (pool.new ≡ pool.old)) }
     {
-        self.groups.len() == self.most as usize
-    }
-
-    /// A new group, for which there is room.
-    fn start(&mut self, key: Row, states: StateRow) -> Result<(), NoMemory>
-        requires room { finite.len (groups_in self.old) < self.old.most }
-        requires new { IsNewKey self.old key }
-        requires group { IsGroup self.old.columns self.old.kinds (key, states) }
-        ensures ok { OnOk result (Merges key states self.old self.new) }
-        ensures err { OnErr result (self.new ≡ self.old) }
-    {
-        self.groups.insert(key, states)?;
+        let key = copy_row(alloc, key)?;
+        self.slots.reserve(1)?;
+        let Some(slot) = pool.take(self.owner) else {
+            unreachable!();
+        };
+        if let Err(_) = self.slots.insert(key, slot) {
+            unreachable!();
+        }
         Ok(())
     }
 
-    /// Adds a row's numbers to the group of its key, if there is one.
-    fn add_to(&mut self, key: &Row, values: &[i64]) -> bool
-        requires values { length values.now ≡ length self.old.kinds }
-        requires fits { RowFits (with_states (groups_in self.old) key.now
-            (row_of self.old.kinds (values.now ∷ []))) most_values }
-        ensures there { result ≡ is_some (finite.get (groups_in self.old) key.now) }
-        ensures added { result ≡ true → Merges key.now (row_of self.old.kinds (values.now ∷ []))
-            self.old self.new }
-        ensures kept { result ≡ false → self.new ≡ self.old }
+    /// The place of the group of a key. Where the key is new, the group is without values.
+    fn place_of(
+        &mut self,
+        alloc: Global,
+        pool: &mut SlotPool,
+        key: &Row,
+    ) -> Result<usize, TableFault>
+        requires { HoldsAll self.old pool.old }
+        ensures ok { IfOk result (λ at. Finds key.now at self.old pool.old self.new pool.new) }
+        ensures err { OnErr result ((self.new ≡ self.old) × (pool.new ≡ pool.old)) }
+        ensures full { (result ≡ Err TooManyGroups)
+            ↔ ((lookup (key_eq key.now) self.old.slots ≡ None)
+            × (length self.old.slots ≡ self.old.most)) }
+        ensures memory { result ≡ Err NoMemory → (lookup (key_eq key.now) self.old.slots ≡ None)
+            × (length self.old.slots < self.old.most) }
     {
-        let Some(own) = self.groups.get_mut(key) else {
-            return false;
-        };
-        own.add(values);
-        true
+        if let Some(at) = self.slots.get_index_of(key) {
+            return Ok(at);
+        }
+        if self.slots.len() == self.most as usize {
+            return Err(TableFault::TooManyGroups);
+        }
+        self.start(alloc, pool, key)?;
+        Ok(self.slots.len() - 1)
     }
 
-    /// Merges states into those of the group of a key, if there is one.
-    fn merge_into(&mut self, key: &Row, states: &StateRow) -> bool
-        requires kinds { kinds_of states.now ≡ self.old.kinds }
-        requires values { 0 < self.old.columns → HaveValues states.now }
-        requires fits { RowFits (with_states (groups_in self.old) key.now states.now) most_values }
-        ensures there { result ≡ is_some (finite.get (groups_in self.old) key.now) }
-        ensures merged { result ≡ true → Merges key.now states.now self.old self.new }
-        ensures kept { result ≡ false → self.new ≡ self.old }
+    /// The slot of the group at a place.
+    fn slot(&self, at: usize) -> &Slot
+        requires { at < length self.now.slots }
+        ensures { result.now ≡ slot_at self.now at }
     {
-        let Some(own) = self.groups.get_mut(key) else {
-            return false;
-        };
-        own.merge(states);
-        true
+        match self.slots.get_index(at) {
+            Some((_, slot)) => slot,
+            None => unreachable!(),
+        }
     }
 
     /// One more row: its key, and its number for each aggregate.
-    pub fn add_row(&mut self, alloc: Global, key: &Row, values: &[i64]) -> Result<(), TableFault>
+    pub fn add_row(
+        &mut self,
+        alloc: Global,
+        pool: &mut SlotPool,
+        key: &Row,
+        values: &[i64],
+    ) -> Result<(), TableFault>
+        requires table { IsTableIn self.old pool.old }
         requires key { length key.now ≡ self.old.columns }
-        requires values { length values.now ≡ length self.old.kinds }
-        requires fits { RowFits (with_states (groups_in self.old) key.now
-            (row_of self.old.kinds (values.now ∷ []))) most_values }
-        ensures ok { OnOk result (Merges key.now (row_of self.old.kinds (values.now ∷ []))
-            self.old self.new) }
-        ensures err { OnErr result (self.new ≡ self.old) }
-        ensures full { (result ≡ Err TooManyGroups) ↔ (IsNewKey self.old key.now
-            × (finite.len (groups_in self.old) ≡ self.old.most)) }
-        ensures memory { result ≡ Err NoMemory → IsNewKey self.old key.now
-            × (finite.len (groups_in self.old) < self.old.most) }
+        requires values { length values.now ≡ length (kinds_at pool.old self.old.owner) }
+        requires fits { RowFits (with_states (groups_in (in_pool self.old pool.old)) key.now
+            (row_of (kinds_at pool.old self.old.owner) (values.now ∷ []))) most_values }
+        ensures ok { OnOk result (Merges key.now (row_of (kinds_at pool.old self.old.owner)
+            (values.now ∷ [])) (in_pool self.old pool.old) (in_pool self.new pool.new)) }
+        ensures stays { StaysIn self.old pool.old self.new pool.new }
+        ensures err { OnErr result ((self.new ≡ self.old) × (pool.new ≡ pool.old)) }
+        ensures full { let old = in_pool self.old pool.old in (result ≡ Err TooManyGroups)
+            ↔ (IsNewKey old key.now × (finite.len (groups_in old) ≡ old.most)) }
+        ensures memory { let old = in_pool self.old pool.old in result ≡ Err NoMemory
+            → IsNewKey old key.now × (finite.len (groups_in old) < old.most) }
     {
-        if self.add_to(key, values) {
-            return Ok(());
-        }
-        if self.is_full() {
-            return Err(TableFault::TooManyGroups);
-        }
-        let states = one_row(alloc, &self.kinds, values)?;
-        self.start(copy_row(alloc, key)?, states)?;
+        let at = match self.place_of(alloc, pool, key) {
+            Ok(at) => at,
+            Err(fault) => return Err(fault),
+        };
+        pool.add(self.slot(at), values);
         Ok(())
     }
 
@@ -174,65 +172,72 @@ impl GroupTable {
     pub fn merge_row(
         &mut self,
         alloc: Global,
+        pool: &mut SlotPool,
         key: &Row,
         states: &StateRow,
     ) -> Result<(), TableFault>
+        requires table { IsTableIn self.old pool.old }
         requires key { length key.now ≡ self.old.columns }
-        requires kinds { kinds_of states.now ≡ self.old.kinds }
+        requires kinds { kinds_of states.now ≡ kinds_at pool.old self.old.owner }
         requires values { 0 < self.old.columns → HaveValues states.now }
-        requires fits { RowFits (with_states (groups_in self.old) key.now states.now) most_values }
-        ensures ok { OnOk result (Merges key.now states.now self.old self.new) }
-        ensures err { OnErr result (self.new ≡ self.old) }
-        ensures full { (result ≡ Err TooManyGroups) ↔ (IsNewKey self.old key.now
-            × (finite.len (groups_in self.old) ≡ self.old.most)) }
-        ensures memory { result ≡ Err NoMemory → IsNewKey self.old key.now
-            × (finite.len (groups_in self.old) < self.old.most) }
+        requires fits { RowFits (with_states (groups_in (in_pool self.old pool.old)) key.now
+            states.now) most_values }
+        ensures ok { OnOk result (Merges key.now states.now (in_pool self.old pool.old)
+            (in_pool self.new pool.new)) }
+        ensures stays { StaysIn self.old pool.old self.new pool.new }
+        ensures err { OnErr result ((self.new ≡ self.old) × (pool.new ≡ pool.old)) }
+        ensures full { let old = in_pool self.old pool.old in (result ≡ Err TooManyGroups)
+            ↔ (IsNewKey old key.now × (finite.len (groups_in old) ≡ old.most)) }
+        ensures memory { let old = in_pool self.old pool.old in result ≡ Err NoMemory
+            → IsNewKey old key.now × (finite.len (groups_in old) < old.most) }
     {
-        if self.merge_into(key, states) {
-            return Ok(());
-        }
-        if self.is_full() {
-            return Err(TableFault::TooManyGroups);
-        }
-        self.start(copy_row(alloc, key)?, states.copy(alloc)?)?;
+        let at = match self.place_of(alloc, pool, key) {
+            Ok(at) => at,
+            Err(fault) => return Err(fault),
+        };
+        pool.merge(self.slot(at), states);
         Ok(())
     }
 
     /// How many groups there are.
     pub fn groups(&self) -> u32
-        ensures places { result ≡ length self.now.groups }
-        ensures count { result ≡ finite.len (groups_in self.now) }
-        ensures table { IsTable self.now }
+        ensures places { result ≡ length self.now.slots }
+        ensures count { (pool : Pool) → IsTableIn self.now pool
+            → result ≡ finite.len (groups_in (in_pool self.now pool)) }
     {
-        self.groups.len() as u32
-    }
-
-    /// The group at a place: its key and its states.
-    fn group(&self, at: u32) -> (&Row, &StateRow)
-        requires { at < length self.now.groups }
-        ensures group { (result.0.now, result.1.now) ≡ group_at self.now at }
-        ensures shape { IsGroup self.now.columns self.now.kinds (group_at self.now at) }
-    {
-        match self.groups.get_index(at as usize) {
-            Some(group) => group,
-            None => unreachable!(),
-        }
+        self.slots.len() as u32
     }
 
     /// The key of the group at a place.
     pub fn key_at(&self, at: u32) -> &Row
-        requires { at < length self.now.groups }
-        ensures { result.now ≡ (group_at self.now at).0 }
+        requires { at < length self.now.slots }
+        ensures { (pool : Pool) → result.now ≡ (group_at (in_pool self.now pool) at).0 }
     {
-        self.group(at).0
+        match self.slots.get_index(at as usize) {
+            Some((key, _)) => key,
+            None => unreachable!(),
+        }
     }
 
     /// The state of the group at a place, by the place of its aggregate.
-    pub fn state_at(&self, at: u32, agg: u16) -> &AggState
-        requires at { at < length self.now.groups }
-        requires agg { agg < length self.now.kinds }
-        ensures { slice_get (group_at self.now at).1 agg ≡ Some result.now }
+    pub fn state_at<'p>(&self, pool: &'p SlotPool, at: u32, agg: u16) -> &'p AggState
+        requires table { HoldsAll self.now pool.now }
+        requires at { at < length self.now.slots }
+        requires agg { agg < length (kinds_at pool.now self.now.owner) }
+        ensures { slice_get (group_at (in_pool self.now pool.now) at).1 agg ≡ Some result.now }
     {
-        self.group(at).1.at(agg as usize)
+        pool.state(self.slot(at as usize), agg)
+    }
+
+    /// Gives all slots back. It takes no memory.
+    pub fn close(self, pool: &mut SlotPool)
+        requires { HoldsAll self pool.old }
+        ensures none { held pool.new self.owner ≡ 0 }
+        ensures keeps { KeepsOthers self.owner pool.old pool.new }
+    {
+        let GroupTable { mut slots, .. } = self;
+        'rest: while let Some((_key, slot)) = slots.pop() {
+            pool.give_back(slot);
+        }
     }
 }

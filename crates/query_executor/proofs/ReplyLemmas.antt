@@ -17,6 +17,7 @@ use Rattle.std.proofs.lemmas.List.{take_all}
 use Rattle.std.proofs.lemmas.Slice.Zip.{AllZip-long}
 use Rattle.group_table.specs.Groups.{Groups, groups_of}
 use Rattle.group_table.specs.Kept.{IsNew, KeptGroups, groups_in}
+use Rattle.group_table.specs.QueryPool.{Limits}
 use Rattle.group_table.specs.Shape.{Shape, shape_of}
 use Rattle.broker_merge.specs.Answer.{answer_of, answer_text}
 use Rattle.broker_merge.specs.Reply.{Reply, reply_over}
@@ -49,7 +50,7 @@ module _ (table : Table) (stored : List Stored) (sql : List ℕ) where
 -- ---- over the groups of all segments
 
 module _ (query : BoundQuery) (table : Table) (stored : List Stored) where
-  pub all_answered : (held : Option Files) (first groups : KeptGroups) (text : List ℕ) → IsNew query most_groups first → AddsFirst query table held stored (length stored) first groups → replied (reply_over most_groups (shape_of query) (groups_in groups)) ≡ Ok text
+  pub all_answered : (held : Option Files) (first groups : KeptGroups) (text : List ℕ) → IsNew query first.most first → AddsFirst query table held stored (length stored) first groups → replied (reply_over most_groups (shape_of query) (groups_in groups)) ≡ Ok text
       → IfSome held (λ files. IsBoundReply table files stored query (Ok text))
   all_answered None first groups text new so is = tt
   all_answered (Some files) first groups text new so is = λ segments all.
@@ -57,11 +58,11 @@ module _ (query : BoundQuery) (table : Table) (stored : List Stored) where
       let groups_are : groups_in groups ≡ groups_of (shape_of query) (selected query (stored_rows table segments)) = so segments all [] new.groups_are ∙ ap (λ l. groups_of (shape_of query) (selected query (stored_rows table l))) whole in
       ap (λ g. replied (reply_over most_groups (shape_of query) g)) (sym groups_are) ∙ is
 
-  pub too_many_refused : (held : Option Files) (first : KeptGroups) → IsNew query most_groups first → AreOverfull query table held stored first → IfSome held (λ files. IsBoundReply table files stored query (Err (TooManyGroups most_groups)))
-  too_many_refused None first new over = tt
-  too_many_refused (Some files) first new over = λ segments all.
+  pub too_many_refused : (held : Option Files) (first : KeptGroups) → IsNew query first.most first → Limits query most_groups first.most → AreOverfull query table held stored first → IfSome held (λ files. IsBoundReply table files stored query (Err (TooManyGroups most_groups)))
+  too_many_refused None first new limits over = tt
+  too_many_refused (Some files) first new limits over = λ segments all.
       let rows : List (List Value) = selected query (stored_rows table segments) in
-      let test : nat_lt 100000 (finite.len (groups_of (shape_of query) rows)) ≡ true = lt-ltb 100000 (finite.len (groups_of (shape_of query) rows)) (omega (arith, over segments all [] new.groups_are, new.most_is)) in
+      let test : nat_lt 100000 (finite.len (groups_of (shape_of query) rows)) ≡ true = lt-ltb 100000 (finite.len (groups_of (shape_of query) rows)) (limits.same rows (over segments all [] new.groups_are)) in
       ap replied (reply_by (shape_of query) (groups_of (shape_of query) rows) test)
     where
       reply_by : (shape : Shape) (groups : Groups) → nat_lt 100000 (finite.len groups) ≡ true → reply_over 100000 shape groups ≡ Reply.TooManyGroups

@@ -11,6 +11,7 @@ use Rattle.table_schema.specs.ValidTable.{IsValidTable}
 use Rattle.table_schema.specs.declared.query.BoundQuery.{BoundQuery}
 use Rattle.table_schema.specs.declared.table.Table.{Table}
 use Rattle.group_table.specs.Kept.{IsTableOf, KeptGroups, groups_in}
+use Rattle.group_table.specs.Pooled.{in_pool}
 use Rattle.scan_engine.specs.Scanned.{HaveAtMost}
 use Rattle.segment_file.specs.Names.{IsSegmentName}
 use Rattle.segment_file.specs.declared.part.Part.{Part}
@@ -55,13 +56,15 @@ pub record IsQueryOf (bound : BoundQuery) (table : Table) (segment : Stored) : T
   pub name : IsSegmentName segment.name
   pub query : IsValidQuery table bound
 
--- a pass over these segments for a query may begin with these groups, of which so many are kept at
--- most
-pub record CanBegin (query : BoundQuery) (table : Table) (stored : List Stored) (most : ℕ)
+-- the groups of a pass, in its pool
+abbrev pub kept_by : Pass → KeptGroups
+kept_by pass = in_pool pass.groups pass.pool
+
+-- a pass over these segments for a query may begin with these groups
+pub record CanBegin (query : BoundQuery) (table : Table) (stored : List Stored)
     (groups : KeptGroups) : Type 0 where
   pub over : IsQueryOver query table stored
   pub of_query : IsTableOf query groups
-  pub most_is : groups.most ≡ most
   pub fits : HaveAtMost (most_values - length stored * 1048576) (groups_in groups)
 
 -- the rows of one segment more may be added to these groups of a query
@@ -134,11 +137,11 @@ HaveOpenings table held stored = (at : ℕ) → at < length stored
 -- segments were made where they are wanted; a pass may go on so
 pub record IsPassOver (query : BoundQuery) (table : Table) (held : Option Files)
     (stored : List Stored) (old new : Pass) : Type 0 where
-  pub of_query : IsTableOf query new.groups
+  pub of_query : IsTableOf query (kept_by new)
   pub most : new.groups.most ≡ old.groups.most
-  pub fits : (n : ℕ) → HaveAtMost n (groups_in old.groups)
-      → HaveAtMost (n + length stored * 1048576) (groups_in new.groups)
-  pub groups : AddsFirst query table held stored (length stored) old.groups new.groups
+  pub fits : (n : ℕ) → HaveAtMost n (groups_in (kept_by old))
+      → HaveAtMost (n + length stored * 1048576) (groups_in (kept_by new))
+  pub groups : AddsFirst query table held stored (length stored) (kept_by old) (kept_by new)
   pub lines : old.wants_lines ≡ true
       → HasLines (stats_line query table) table held stored (length stored) new.lines.items
   pub openings : HaveOpenings table held stored

@@ -100,7 +100,7 @@ fn reply_to_bound<S: Shelf>(
         Ok(()) => {}
         Err(fault) => return Err(fault),
     }
-    let reply = answer(alloc, query, &pass.groups)?;
+    let reply = answer(alloc, query, &pass.groups, &pass.pool)?;
     Ok(with_lines(reply, wants_lines, pass.lines.as_slice())?)
 }
 

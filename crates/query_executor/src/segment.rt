@@ -1,4 +1,5 @@
 //! The rows of a segment are added to the groups of a query.
+ghost use Rattle.group_table.specs.Pooled.{IsTableIn, StaysIn, in_pool};
 ghost use Rattle.std.specs.Prelude.{IfOk};
 ghost use Rattle.outside.specs.Seen.{seen};
 ghost use Rattle.segment_reads.specs.Looked.{IsDoneIn};
@@ -7,7 +8,7 @@ ghost use Rattle.query_executor.specs.Passes.{AddsSegment, HasRoomFor, IsQueryOf
 use crate::adding::add_planned;
 use crate::scanned::{Scanned, nothing};
 use eligibility::pick;
-use group_table::GroupTable;
+use group_table::{GroupTable, SlotPool};
 use outside::Shelf;
 use segment_head::{EngineFault, Stored};
 use segment_opening::{load_unless_emptied, open_segment};
@@ -26,13 +27,17 @@ pub(crate) fn add_segment<S: Shelf>(
     segment: &Stored,
     query: &BoundQuery,
     groups: &mut GroupTable,
+    pool: &mut SlotPool,
 ) -> Result<Scanned, EngineFault>
+    requires pooled { IsTableIn groups.old pool.old }
     requires of_table { IsQueryOf query.now table.now segment.now }
-    requires room { HasRoomFor query.now groups.old }
-    ensures adds { AddsSegment query.now table.now segment.now groups.old groups.new
+    requires room { HasRoomFor query.now (in_pool groups.old pool.old) }
+    ensures adds { AddsSegment query.now table.now segment.now (in_pool groups.old pool.old)
+        (in_pool groups.new pool.new)
         (seen S.Shelf shelf.old) (seen S.Shelf shelf.new) result }
     ensures done { IfOk result (λ done. IsDoneIn query.now table.now (S.held shelf.old) segment.now
         done.plan done.docs) }
+    ensures stays { StaysIn groups.old pool.old groups.new pool.new }
 {
     docs_bound_law();
     let mut head = match open_segment(alloc, shelf, table, segment) {
@@ -54,5 +59,5 @@ pub(crate) fn add_segment<S: Shelf>(
     if !loaded {
         return Ok(nothing(SegmentPlan::Empty));
     }
-    add_planned(alloc, shelf, table, &head, query, groups)
+    add_planned(alloc, shelf, table, &head, query, groups, pool)
 }

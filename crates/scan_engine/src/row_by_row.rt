@@ -4,12 +4,13 @@ ghost use Rattle.std.specs.Prelude.{◌≡◌, ◌-◌, ◌∷◌, [], Err, IfOk
 ghost use Rattle.agg_laws.specs.Numbers.{AreWhole, IsWhole};
 ghost use Rattle.values.specs.Columns.{row_of};
 ghost use Rattle.group_table.specs.Groups.{key_of, number_for};
+ghost use Rattle.group_table.specs.Pooled.{IsTableIn, StaysIn, in_pool};
 ghost use Rattle.scan_engine.specs.Places.{rows_at};
 ghost use Rattle.scan_engine.specs.Scanned.{AddsOrFull, HasRoom};
 
 use crate::holds::number_in;
 use crate::number_block::NumberBlock;
-use group_table::{GroupTable, TableFault};
+use group_table::{GroupTable, SlotPool, TableFault};
 use std::alloc::Global;
 use table_schema::{Agg, BoundQuery};
 use values::{NoMemory, Row, Value};
@@ -21,10 +22,14 @@ pub(crate) fn add_singly(
     block: NumberBlock,
     places: &[u32],
     table: &mut GroupTable,
+    pool: &mut SlotPool,
 ) -> Result<(), TableFault>
-    requires { HasRoom query.now (length places.now) table.old }
-    ensures { AddsOrFull query.now (length places.now)
-        (rows_at block.entry.columns.now.columns places.now) table.old table.new result }
+    requires table { IsTableIn table.old pool.old }
+    requires room { HasRoom query.now (length places.now) (in_pool table.old pool.old) }
+    ensures adds { AddsOrFull query.now (length places.now)
+        (rows_at block.entry.columns.now.columns places.now) (in_pool table.old pool.old)
+        (in_pool table.new pool.new) result }
+    ensures stays { StaysIn table.old pool.old table.new pool.new }
 {
     let mut key = Row::with_capacity(alloc, query.groups.len())?;
     let mut values = Vec::with_capacity(alloc, query.aggs.len())?;
@@ -37,6 +42,7 @@ pub(crate) fn add_singly(
             key,
             &mut values,
             table,
+            pool,
         ) {
             Ok(used) => key = used,
             Err(fault) => return Err(fault),
@@ -54,14 +60,17 @@ fn add_one(
     spare: Row,
     values: &mut Vec<i64>,
     table: &mut GroupTable,
+    pool: &mut SlotPool,
 ) -> Result<Row, TableFault>
-    requires { HasRoom query.now 1 table.old }
-    ensures { AddsOrFull query.now 1 (row_of block.entry.columns.now.columns at ∷ [])
-        table.old table.new result }
+    requires table { IsTableIn table.old pool.old }
+    requires room { HasRoom query.now 1 (in_pool table.old pool.old) }
+    ensures adds { AddsOrFull query.now 1 (row_of block.entry.columns.now.columns at ∷ [])
+        (in_pool table.old pool.old) (in_pool table.new pool.new) result }
+    ensures stays { StaysIn table.old pool.old table.new pool.new }
 {
     let key = key_in(spare, block, at, query.groups.as_slice())?;
     fill_values(block, at, query.aggs.as_slice(), values)?;
-    if let Err(fault) = table.add_row(alloc, &key, values) {
+    if let Err(fault) = table.add_row(alloc, pool, &key, values) {
         return Err(fault);
     }
     Ok(key)

@@ -4,6 +4,7 @@ ghost use Rattle.std.specs.Prelude.{◌≡◌, ◌<◌, ◌≤◌, ℕ, All, Err
 ghost use Rattle.std.specs.FinMap as finite;
 ghost use Rattle.outside.specs.Seen.{seen};
 ghost use Rattle.group_table.specs.Kept.{groups_in};
+ghost use Rattle.group_table.specs.Pooled.{IsTableIn, StaysIn, in_pool};
 ghost use Rattle.scan_engine.specs.Scanned.{IsOverfull};
 ghost use Rattle.segment_file.specs.declared.part.Part.{Part};
 ghost use Rattle.segment_file.specs.declared.part.Part.TheVariants.{Forward};
@@ -20,7 +21,7 @@ use coded_columns::SegmentColumns;
 use coded_scan::add_coded;
 use column_reader::pick_columns;
 use doc_lists::DocList;
-use group_table::{GroupTable, TableFault};
+use group_table::{GroupTable, SlotPool, TableFault};
 use outside::Shelf;
 use segment_head::EngineFault;
 use segment_plan::IndexChoice;
@@ -37,19 +38,23 @@ pub(crate) fn scan_documents<S: Shelf>(
     choices: &[IndexChoice],
     docs: &DocList,
     groups: &mut GroupTable,
+    pool: &mut SlotPool,
 ) -> Result<(), EngineFault>
+    requires pooled { IsTableIn groups.old pool.old }
     requires few_rows { answered.now.head.now.rows ≤ most_rows }
     requires within { All (λ doc. doc < answered.now.head.now.rows) docs.now }
     requires readable { AreReadable answered.now.head.now named.now }
-    requires room { HaveRoom answered.now.query.now (length docs.now) groups.old }
+    requires room { HaveRoom answered.now.query.now (length docs.now)
+        (in_pool groups.old pool.old) }
     ensures count { IfOk result (λ _. length docs.now ≤ answered.now.head.now.rows) }
     ensures ok { OnOk result (AddsDocs answered.now.query.now choices.now (S.held shelf.old)
-        answered.now.head.now named.now docs.now groups.old groups.new) }
+        answered.now.head.now named.now docs.now (in_pool groups.old pool.old) (in_pool groups.new
+        pool.new)) }
     ensures full { result ≡ Err TooManyGroups → IfSome (S.held shelf.old) (λ files. IsOverfull
         answered.now.query.now (selected_docs answered.now.query.now choices.now files
-        answered.now.head.now named.now docs.now) groups.old) }
+        answered.now.head.now named.now docs.now) (in_pool groups.old pool.old)) }
     ensures filled { result ≡ Err TooManyGroups →
-        finite.len (groups_in groups.new) ≡ groups.old.most }
+        finite.len (groups_in (in_pool groups.new pool.new)) ≡ groups.old.most }
     ensures bad { (part : Part) → result ≡ Err (NotASegment part) → (column : ℕ)
         × (get_or named.now column false ≡ true) × (part ≡ Forward column)
         × IfSome (S.held shelf.old) (λ files. ¬ HasIds files answered.now.head.now column) }
@@ -57,6 +62,7 @@ pub(crate) fn scan_documents<S: Shelf>(
         (λ _. LogsDocs answered.now.head.now named.now docs.now)
         (LogsDocsPartly answered.now.head.now named.now docs.now)
         (seen S.Shelf shelf.old) (seen S.Shelf shelf.new) }
+    ensures stays { StaysIn groups.old pool.old groups.new pool.new }
 {
     let head = answered.head;
     let runs = docs.runs();
@@ -70,7 +76,7 @@ pub(crate) fn scan_documents<S: Shelf>(
         columns: columns.as_slice(),
         count: docs.len(),
     };
-    match add_coded(alloc, answered.query, choices, &segment, groups) {
+    match add_coded(alloc, answered.query, choices, &segment, groups, pool) {
         Ok(()) => Ok(()),
         Err(TableFault::TooManyGroups) => Err(EngineFault::TooManyGroups),
         Err(TableFault::NoMemory) => Err(EngineFault::NoMemory),

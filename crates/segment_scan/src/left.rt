@@ -4,6 +4,7 @@ ghost use Rattle.std.specs.Prelude.{◌≡◌, ◌<◌, All, Err, IfOk, IfSome, 
 ghost use Rattle.std.specs.FinMap as finite;
 ghost use Rattle.outside.specs.Seen.{seen};
 ghost use Rattle.group_table.specs.Kept.{groups_in};
+ghost use Rattle.group_table.specs.Pooled.{IsTableIn, StaysIn, in_pool};
 ghost use Rattle.scan_engine.specs.Scanned.{IsOverfull};
 ghost use Rattle.column_reader.specs.Calls.{ReadsSections};
 ghost use Rattle.segment_scan.specs.Scans.{IsScannable};
@@ -19,7 +20,7 @@ use crate::answered::Answered;
 use crate::documents::scan_documents;
 use crate::laws::{image_law, index_law};
 use doc_lists::{DocList, meet, without};
-use group_table::GroupTable;
+use group_table::{GroupTable, SlotPool};
 use outside::Shelf;
 use segment_head::EngineFault;
 use segment_plan::{IndexChoice, named_columns, sure_choices};
@@ -37,9 +38,11 @@ pub(crate) fn scan_left<S: Shelf>(
     docs: &DocList,
     unsure: &DocList,
     groups: &mut GroupTable,
+    pool: &mut SlotPool,
 ) -> Result<u32, EngineFault>
+    requires pooled { IsTableIn groups.old pool.old }
     requires scans { IsScannable answered.now.query.now answered.now.table.now
-        answered.now.head.now answered.now.head.now.rows groups.old }
+        answered.now.head.now answered.now.head.now.rows (in_pool groups.old pool.old) }
     requires planned { choices.now ≡ choices_for answered.now.query.now answered.now.table.now
         answered.now.head.now }
     requires leaves { AreLeftBy answered.now.query.now answered.now.table.now (S.held shelf.old)
@@ -48,11 +51,13 @@ pub(crate) fn scan_left<S: Shelf>(
     ensures count { IfOk result (AreDocs answered.now.query.now answered.now.table.now
         (S.held shelf.old) answered.now.head.now) }
     ensures ok { OnOk result (AddsImage answered.now.query.now answered.now.table.now
-        (S.held shelf.old) answered.now.head.now groups.old groups.new) }
+        (S.held shelf.old) answered.now.head.now (in_pool groups.old pool.old) (in_pool groups.new
+        pool.new)) }
     ensures full { result ≡ Err TooManyGroups → IsImageOverfull answered.now.query.now
-        answered.now.table.now (S.held shelf.old) answered.now.head.now groups.old }
+        answered.now.table.now (S.held shelf.old) answered.now.head.now (in_pool groups.old
+        pool.old) }
     ensures filled { result ≡ Err TooManyGroups →
-        finite.len (groups_in groups.new) ≡ groups.old.most }
+        finite.len (groups_in (in_pool groups.new pool.new)) ≡ groups.old.most }
     ensures bad { (part : Part) → result ≡ Err (NotASegment part) →
         IsBadForward (rest_for answered.now.query.now answered.now.table.now
         answered.now.head.now) (S.held shelf.old) answered.now.head.now part
@@ -61,6 +66,7 @@ pub(crate) fn scan_left<S: Shelf>(
         answered.now.table.now answered.now.head.now docs.now) (LogsLeft LogsPartsPartly
         answered.now.query.now answered.now.table.now answered.now.head.now docs.now)
         (seen S.Shelf shelf.old) (seen S.Shelf shelf.new) }
+    ensures stays { StaysIn groups.old pool.old groups.new pool.new }
 {
     image_law();
     index_law();
@@ -68,11 +74,11 @@ pub(crate) fn scan_left<S: Shelf>(
     let sure = without(alloc, docs, unsure)?;
     let served = sure_choices(alloc, choices)?;
     let served = served.as_slice();
-    match scan_part(alloc, shelf, answered, choices, &check, groups) {
+    match scan_part(alloc, shelf, answered, choices, &check, groups, pool) {
         Ok(()) => {}
         Err(fault) => return Err(fault),
     }
-    match scan_part(alloc, shelf, answered, served, &sure, groups) {
+    match scan_part(alloc, shelf, answered, served, &sure, groups, pool) {
         Ok(()) => Ok(docs.len() as u32),
         Err(fault) => Err(fault),
     }
@@ -88,19 +94,22 @@ fn scan_part<S: Shelf>(
     choices: &[IndexChoice],
     docs: &DocList,
     groups: &mut GroupTable,
+    pool: &mut SlotPool,
 ) -> Result<(), EngineFault>
+    requires pooled { IsTableIn groups.old pool.old }
     requires scans { IsScannable answered.now.query.now answered.now.table.now
-        answered.now.head.now (length docs.now) groups.old }
+        answered.now.head.now (length docs.now) (in_pool groups.old pool.old) }
     requires within { All (λ doc. doc < answered.now.head.now.rows) docs.now }
     ensures ok { OnOk result (AddsDocs answered.now.query.now choices.now (S.held shelf.old)
         answered.now.head.now (names_in (rest_of answered.now.query.now choices.now)
-        answered.now.table.now) docs.now groups.old groups.new) }
+        answered.now.table.now) docs.now (in_pool groups.old pool.old) (in_pool groups.new
+        pool.new)) }
     ensures full { result ≡ Err TooManyGroups → IfSome (S.held shelf.old) (λ files. IsOverfull
         answered.now.query.now (selected_docs answered.now.query.now choices.now files
         answered.now.head.now (names_in (rest_of answered.now.query.now choices.now)
-        answered.now.table.now) docs.now) groups.old) }
+        answered.now.table.now) docs.now) (in_pool groups.old pool.old)) }
     ensures filled { result ≡ Err TooManyGroups →
-        finite.len (groups_in groups.new) ≡ groups.old.most }
+        finite.len (groups_in (in_pool groups.new pool.new)) ≡ groups.old.most }
     ensures bad { (part : Part) → result ≡ Err (NotASegment part) →
         IsBadForward (rest_of answered.now.query.now choices.now) (S.held shelf.old)
         answered.now.head.now part
@@ -110,6 +119,7 @@ fn scan_part<S: Shelf>(
         (LogsDocsPartly answered.now.head.now
         (names_in (rest_of answered.now.query.now choices.now) answered.now.table.now) docs.now)
         (seen S.Shelf shelf.old) (seen S.Shelf shelf.new) }
+    ensures stays { StaysIn groups.old pool.old groups.new pool.new }
 {
     image_law();
     let named = named_columns(
@@ -119,5 +129,5 @@ fn scan_part<S: Shelf>(
         answered.table.schema.fields.len(),
     )?;
     let named = named.as_slice();
-    scan_documents(alloc, shelf, answered, named, choices, docs, groups)
+    scan_documents(alloc, shelf, answered, named, choices, docs, groups, pool)
 }

@@ -4,6 +4,7 @@ ghost use Rattle.std.specs.Prelude.{◌≡◌, ◌<◌, ◌≤◌, ℕ, List, Er
 ghost use Rattle.std.specs.FinMap as finite;
 ghost use Rattle.outside.specs.Seen.{seen};
 ghost use Rattle.group_table.specs.Kept.{groups_in};
+ghost use Rattle.group_table.specs.Pooled.{IsTableIn, StaysIn, in_pool};
 ghost use Rattle.scan_engine.specs.Scanned.{IsOverfull};
 ghost use Rattle.segment_head.specs.Heads.{IsLoaded};
 ghost use Rattle.segment_file.specs.declared.part.Part.{Part};
@@ -17,7 +18,7 @@ ghost use Rattle.segment_head.specs.declared.fault.EngineFault.TheVariants.{NotA
 use coded_columns::{Coded, Ids, SegmentColumns};
 use coded_scan::add_coded;
 use column_reader::read_columns;
-use group_table::{GroupTable, TableFault};
+use group_table::{GroupTable, SlotPool, TableFault};
 use outside::Shelf;
 use segment_head::{EngineFault, Head};
 use std::alloc::Global;
@@ -55,23 +56,27 @@ pub(crate) fn scan_columns<S: Shelf>(
     named: &[bool],
     query: &BoundQuery,
     groups: &mut GroupTable,
+    pool: &mut SlotPool,
 ) -> Result<u32, EngineFault>
+    requires pooled { IsTableIn groups.old pool.old }
     requires few_rows { head.now.rows ≤ most_rows }
     requires readable { AreReadable head.now named.now }
-    requires room { HaveRoom query.now head.now.rows groups.old }
+    requires room { HaveRoom query.now head.now.rows (in_pool groups.old pool.old) }
     ensures count { IfOk result (λ n. n ≡ head.now.rows) }
     ensures ok { OnOk result (AddsSegment query.now (S.held shelf.old) head.now named.now
-        groups.old groups.new) }
+        (in_pool groups.old pool.old) (in_pool groups.new pool.new)) }
     ensures full { result ≡ Err TooManyGroups → IfSome (S.held shelf.old) (λ files.
-        IsOverfull query.now (selected_read query.now files head.now named.now) groups.old) }
+        IsOverfull query.now (selected_read query.now files head.now named.now) (in_pool groups.old
+        pool.old)) }
     ensures filled { result ≡ Err TooManyGroups →
-        finite.len (groups_in groups.new) ≡ groups.old.most }
+        finite.len (groups_in (in_pool groups.new pool.new)) ≡ groups.old.most }
     ensures bad { (part : Part) → result ≡ Err (NotASegment part) → (column : ℕ)
         × (get_or named.now column false ≡ true) × (part ≡ Forward column)
         × IfSome (S.held shelf.old) (λ files. ¬ HasIds files head.now column) }
     ensures reads { ReadsSections result
         (λ _. LogsColumns head.now named.now (length named.now)) (LogsSome head.now named.now)
         (seen S.Shelf shelf.old) (seen S.Shelf shelf.new) }
+    ensures stays { StaysIn groups.old pool.old groups.new pool.new }
 {
     let ids = match read_columns(alloc, shelf, head, named) {
         Ok(ids) => ids,
@@ -83,7 +88,7 @@ pub(crate) fn scan_columns<S: Shelf>(
         columns: columns.as_slice(),
         count: head.rows() as usize,
     };
-    match add_coded(alloc, query, &[], &segment, groups) {
+    match add_coded(alloc, query, &[], &segment, groups, pool) {
         Ok(()) => Ok(head.rows()),
         Err(TableFault::TooManyGroups) => Err(EngineFault::TooManyGroups),
         Err(TableFault::NoMemory) => Err(EngineFault::NoMemory),

@@ -4,6 +4,7 @@ ghost use Rattle.std.specs.Prelude.{◌≡◌, Err, IfOk, OnOk};
 ghost use Rattle.std.specs.FinMap as finite;
 ghost use Rattle.outside.specs.Seen.{seen};
 ghost use Rattle.group_table.specs.Kept.{groups_in};
+ghost use Rattle.group_table.specs.Pooled.{IsTableIn, StaysIn, in_pool};
 ghost use Rattle.segment_file.specs.declared.part.Part.{Part};
 ghost use Rattle.segment_scan.specs.Images.{AddsImage, AreDocs, IsBadIn, IsImageOverfull, LogsScan, LogsScanPartly, choices_for};
 ghost use Rattle.column_reader.specs.Calls.{ReadsSections};
@@ -15,7 +16,7 @@ use crate::laws::{image_law, index_law};
 use crate::left::scan_left;
 use crate::whole::scan_whole;
 use doc_lists::DocList;
-use group_table::GroupTable;
+use group_table::{GroupTable, SlotPool};
 use index_filter::documents;
 use outside::Shelf;
 use segment_head::{EngineFault, Head};
@@ -38,22 +39,27 @@ pub fn scan_segment<S: Shelf>(
     query: &BoundQuery,
     plan: &ScanPlan,
     groups: &mut GroupTable,
+    pool: &mut SlotPool,
 ) -> Result<u32, EngineFault>
-    requires scans { IsScannable query.now table.now head.now head.now.rows groups.old }
+    requires pooled { IsTableIn groups.old pool.old }
+    requires scans { IsScannable query.now table.now head.now head.now.rows (in_pool groups.old
+        pool.old) }
     requires planned { plan.now.choices ≡ choices_for query.now table.now head.now }
     ensures count { IfOk result (AreDocs query.now table.now (S.held shelf.old) head.now) }
     ensures ok { OnOk result (AddsImage query.now table.now (S.held shelf.old) head.now
-        groups.old groups.new) }
+        (in_pool groups.old pool.old) (in_pool groups.new pool.new)) }
     ensures full { result ≡ Err TooManyGroups →
-        IsImageOverfull query.now table.now (S.held shelf.old) head.now groups.old }
+        IsImageOverfull query.now table.now (S.held shelf.old) head.now (in_pool groups.old
+        pool.old) }
     ensures filled { result ≡ Err TooManyGroups →
-        finite.len (groups_in groups.new) ≡ groups.old.most }
+        finite.len (groups_in (in_pool groups.new pool.new)) ≡ groups.old.most }
     ensures bad { (part : Part) → result ≡ Err (NotASegment part) →
         IsBadIn query.now table.now (S.held shelf.old) head.now part }
     ensures reads { ReadsSections result
         (LogsScan query.now table.now (S.held shelf.old) head.now)
         (LogsScanPartly query.now table.now (S.held shelf.old) head.now)
         (seen S.Shelf shelf.old) (seen S.Shelf shelf.new) }
+    ensures stays { StaysIn groups.old pool.old groups.new pool.new }
 {
     image_law();
     index_law();
@@ -65,10 +71,12 @@ pub fn scan_segment<S: Shelf>(
         Err(fault) => return Err(fault),
     };
     match docs {
-        None => scan_whole(alloc, shelf, head, table, query, groups),
+        None => scan_whole(alloc, shelf, head, table, query, groups, pool),
         Some(docs) => {
             let answered = Answered { head, table, query };
-            scan_left(alloc, shelf, &answered, choices, &docs, &unsure, groups)
+            scan_left(
+                alloc, shelf, &answered, choices, &docs, &unsure, groups, pool,
+            )
         }
     }
 }

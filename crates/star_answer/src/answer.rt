@@ -5,6 +5,7 @@ ghost use Rattle.std.specs.Prelude.{OnErr, OnOk};
 ghost use Rattle.std.specs.FinMap as finite;
 ghost use Rattle.outside.specs.Seen.{OnlyReads, seen};
 ghost use Rattle.group_table.specs.Kept.{groups_in};
+ghost use Rattle.group_table.specs.Pooled.{IsTableIn, StaysIn, in_pool};
 ghost use Rattle.star_walk.specs.Images.{read_of};
 ghost use Rattle.star_reader.specs.declared.fault.AnswerFault.TheVariants.{BadDocs, ReadFault};
 ghost use Rattle.star_reader.specs.declared.fault.AnswerFault.TheVariants.{TooManyGroups};
@@ -12,7 +13,7 @@ ghost use Rattle.star_reader.specs.Answers.{Answers, CanAnswer, IsBad, IsOverful
 ghost use Rattle.star_reader.specs.Answers.{LogsSome, picks_of, reads_of};
 
 use crate::merging::merge_documents;
-use group_table::{GroupTable, TableFault};
+use group_table::{GroupTable, SlotPool, TableFault};
 use outside::Shelf;
 use star_reader::{AnswerFault, Asked, TreePart, take_picks};
 use star_walk::{Pick, Task, coalesced, coalesced_law, walk, walkable_law};
@@ -29,15 +30,17 @@ pub(crate) fn answer_tree<S: Shelf>(
     asked: &Asked<'_>,
     rows: u32,
     groups: &mut GroupTable,
+    pool: &mut SlotPool,
 ) -> Result<u32, AnswerFault>
-    requires { CanAnswer tree.now task.now asked.now rows groups.old }
+    requires pooled { IsTableIn groups.old pool.old }
+    requires room { CanAnswer tree.now task.now asked.now rows (in_pool groups.old pool.old) }
     ensures count { IfOk result (λ n. n ≡ read_of (picks_of tree.now task.now)) }
     ensures ok { OnOk result (Answers tree.now task.now asked.now rows (S.held shelf.old)
-        groups.old groups.new) }
+        (in_pool groups.old pool.old) (in_pool groups.new pool.new)) }
     ensures full { result ≡ Err TooManyGroups
-        → IsOverfull tree.now task.now asked.now (S.held shelf.old) groups.old }
+        → IsOverfull tree.now task.now asked.now (S.held shelf.old) (in_pool groups.old pool.old) }
     ensures filled { result ≡ Err TooManyGroups
-        → finite.len (groups_in groups.new) ≡ groups.old.most }
+        → finite.len (groups_in (in_pool groups.new pool.new)) ≡ groups.old.most }
     ensures bad { IsErrOf result BadDocs
         → IsBad tree.now task.now asked.now rows (S.held shelf.old) }
     ensures only_reads { OnlyReads (IsErrOf result ReadFault)
@@ -46,6 +49,7 @@ pub(crate) fn answer_tree<S: Shelf>(
         (S.log shelf.old) (S.log shelf.new)) }
     ensures log_of_fault { OnErr result (LogsSome tree.now (reads_of tree.now task.now)
         (S.log shelf.old) (S.log shelf.new)) }
+    ensures stays { StaysIn groups.old pool.old groups.new pool.new }
 {
     walkable_law();
     coalesced_law();
@@ -58,7 +62,7 @@ pub(crate) fn answer_tree<S: Shelf>(
         Ok(selected) => selected,
         Err(fault) => return Err(fault),
     };
-    match merge_documents(alloc, asked.columns, selected, groups) {
+    match merge_documents(alloc, asked.columns, selected, groups, pool) {
         Ok(()) => Ok(count),
         Err(TableFault::TooManyGroups) => Err(AnswerFault::TooManyGroups),
         Err(TableFault::NoMemory) => Err(AnswerFault::NoMemory),

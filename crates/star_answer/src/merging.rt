@@ -8,11 +8,12 @@ ghost use Rattle.state_columns.specs.Docs.{HaveShape, doc_at};
 ghost use Rattle.agg_laws.specs.Merged.{weights};
 ghost use Rattle.group_table.specs.declared.fault.TableFault.TheVariants.{TooManyGroups};
 ghost use Rattle.group_table.specs.Kept.{groups_in};
+ghost use Rattle.group_table.specs.Pooled.{IsTableIn, StaysIn, in_pool};
 ghost use Rattle.star_reader.specs.Entries.{MergesEntries, with_entries};
 ghost use Rattle.star_reader.specs.Selected.{keyed};
 ghost use Rattle.star_answer.specs.Merging.{CanMerge};
 
-use group_table::{GroupTable, TableFault};
+use group_table::{GroupTable, SlotPool, TableFault};
 use star_reader::{GroupColumn, key_at};
 use star_table::StarTable;
 use state_columns::StateRow;
@@ -25,15 +26,19 @@ pub(crate) fn merge_documents(
     columns: &[GroupColumn<'_>],
     selected: StarTable,
     groups: &mut GroupTable,
+    pool: &mut SlotPool,
 ) -> Result<(), TableFault>
+    requires pooled { IsTableIn groups.old pool.old }
     requires at_most { length selected.docs ≤ most_stored }
-    requires merges { CanMerge columns.now selected selected.docs groups.old }
+    requires merges { CanMerge columns.now selected selected.docs (in_pool groups.old pool.old) }
     ensures ok { OnOk result (MergesEntries (weights row_weight selected.docs)
-        (keyed columns.now selected.docs) groups.old groups.new) }
+        (keyed columns.now selected.docs) (in_pool groups.old pool.old) (in_pool groups.new
+        pool.new)) }
     ensures full { result ≡ Err TooManyGroups → groups.old.most < finite.len
-        (with_entries (groups_in groups.old) (keyed columns.now selected.docs)) }
+        (with_entries (groups_in (in_pool groups.old pool.old)) (keyed columns.now selected.docs)) }
     ensures filled { result ≡ Err TooManyGroups
-        → finite.len (groups_in groups.new) ≡ groups.old.most }
+        → finite.len (groups_in (in_pool groups.new pool.new)) ≡ groups.old.most }
+    ensures stays { StaysIn groups.old pool.old groups.new pool.new }
 {
     let mut selected = selected;
     let count = selected.len() as u32;
@@ -42,7 +47,7 @@ pub(crate) fn merge_documents(
     }
     selected.reserve(count)?;
     selected.append_merged(0, count)?;
-    merge_last(alloc, columns, &selected, count, groups)
+    merge_last(alloc, columns, &selected, count, groups, pool)
 }
 
 // Merges the last documents of a table, as many as there are from a number on, into the groups of
@@ -53,21 +58,28 @@ fn merge_last(
     selected: &StarTable,
     from: u32,
     groups: &mut GroupTable,
+    pool: &mut SlotPool,
 ) -> Result<(), TableFault>
+    requires pooled { IsTableIn groups.old pool.old }
     requires at_most { length selected.now.docs < 2 ^ 32 }
     requires from { from ≤ length selected.now.docs }
-    requires merges { CanMerge columns.now selected.now (drop from selected.now.docs) groups.old }
+    requires merges { CanMerge columns.now selected.now (drop from selected.now.docs) (in_pool
+        groups.old pool.old) }
     ensures ok { OnOk result (MergesEntries (weights row_weight (drop from selected.now.docs))
-        (keyed columns.now (drop from selected.now.docs)) groups.old groups.new) }
-    ensures full { result ≡ Err TooManyGroups → groups.old.most < finite.len (with_entries
-        (groups_in groups.old) (keyed columns.now (drop from selected.now.docs))) }
+        (keyed columns.now (drop from selected.now.docs)) (in_pool groups.old pool.old) (in_pool
+        groups.new pool.new)) }
+    ensures full { result ≡ Err TooManyGroups → groups.old.most < finite.len
+        (with_entries
+        (groups_in (in_pool groups.old pool.old)) (keyed columns.now (drop from
+        selected.now.docs))) }
     ensures filled { result ≡ Err TooManyGroups
-        → finite.len (groups_in groups.new) ≡ groups.old.most }
+        → finite.len (groups_in (in_pool groups.new pool.new)) ≡ groups.old.most }
+    ensures stays { StaysIn groups.old pool.old groups.new pool.new }
 {
     for at in from..selected.len() as u32 {
         let key = key_at(alloc, columns, selected, at)?;
         let states = states_at(alloc, selected, at)?;
-        if let Err(fault) = groups.merge_row(alloc, &key, &states) {
+        if let Err(fault) = groups.merge_row(alloc, pool, &key, &states) {
             return Err(fault);
         }
     }

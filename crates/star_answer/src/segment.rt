@@ -4,6 +4,7 @@ ghost use Rattle.std.specs.Prelude.{◌≡◌, ◌<◌, Err, IfOk, IsErrOf, OnEr
 ghost use Rattle.std.specs.FinMap as finite;
 ghost use Rattle.outside.specs.Seen.{OnlyReads, seen};
 ghost use Rattle.group_table.specs.Kept.{groups_in};
+ghost use Rattle.group_table.specs.Pooled.{IsTableIn, StaysIn, in_pool};
 ghost use Rattle.segment_file.specs.declared.part.Part.{Part};
 ghost use Rattle.segment_file.specs.declared.part.Part.TheVariants as parts;
 ghost use Rattle.segment_head.specs.Heads.{IsHeadOf, place_in};
@@ -16,7 +17,7 @@ use crate::doc_laws::docs_read_law;
 use crate::laws::served_law;
 use crate::tasks::tree_task;
 use crate::tree_fault::of_tree;
-use group_table::GroupTable;
+use group_table::{GroupTable, SlotPool};
 use outside::{Place, Shelf};
 use segment_file::Part;
 use segment_head::{EngineFault, Head, engine_fault};
@@ -37,16 +38,19 @@ pub fn answer_segment<S: Shelf>(
     tree: u8,
     query: &BoundQuery,
     groups: &mut GroupTable,
+    pool: &mut SlotPool,
 ) -> Result<u32, EngineFault>
-    requires { IsServable query.now table.now head.now tree groups.old }
+    requires pooled { IsTableIn groups.old pool.old }
+    requires room { IsServable query.now table.now head.now tree (in_pool groups.old pool.old) }
     ensures count { IfOk result
         (AreDocsRead query.now table.now (S.held shelf.old) head.now tree) }
     ensures ok { OnOk result (AddsAnswer query.now table.now (S.held shelf.old) head.now
-        groups.old groups.new) }
+        (in_pool groups.old pool.old) (in_pool groups.new pool.new)) }
     ensures full { result ≡ Err TooManyGroups →
-        IsAnswerOverfull query.now table.now (S.held shelf.old) head.now groups.old }
+        IsAnswerOverfull query.now table.now (S.held shelf.old) head.now (in_pool groups.old
+        pool.old) }
     ensures filled { result ≡ Err TooManyGroups →
-        finite.len (groups_in groups.new) ≡ groups.old.most }
+        finite.len (groups_in (in_pool groups.new pool.new)) ≡ groups.old.most }
     ensures bad { (part : Part) → result ≡ Err (NotASegment part) →
         IsBadTree query.now table.now (S.held shelf.old) head.now tree part }
     ensures only_reads { OnlyReads (IsErrOf result ReadFault)
@@ -55,6 +59,7 @@ pub fn answer_segment<S: Shelf>(
         tree count (S.log shelf.old) (S.log shelf.new)) }
     ensures log_of_fault { OnErr result (LogsAnswerPartly query.now table.now (S.held shelf.old)
         head.now tree (S.log shelf.old) (S.log shelf.new)) }
+    ensures stays { StaysIn groups.old pool.old groups.new pool.new }
 {
     served_law();
     docs_read_law();
@@ -73,7 +78,16 @@ pub fn answer_segment<S: Shelf>(
         columns: columns.as_slice(),
         pairs: pairs.as_slice(),
     };
-    match answer_tree(alloc, shelf, &part, &task, &asked, head.rows(), groups) {
+    match answer_tree(
+        alloc,
+        shelf,
+        &part,
+        &task,
+        &asked,
+        head.rows(),
+        groups,
+        pool,
+    ) {
         Ok(count) => Ok(count),
         Err(fault) => Err(of_tree(fault, tree)),
     }

@@ -73,7 +73,7 @@ units_more xs cells ks from i u fits lt is so =
 
 -- ---- rows of cells
 
-row_before : (q n w m : ℕ) → q < n → m ≤ w → q * w + m ≤ n * w
+pub row_before : (q n w m : ℕ) → q < n → m ≤ w → q * w + m ≤ n * w
 row_before q n w m lt le =
     let next : suc q ≤ n = omega (arith, lt) in
     let same : w ≤ w = omega arith in
@@ -81,7 +81,7 @@ row_before q n w m lt le =
     let one : suc q * w ≡ q * w + w = suc-mul q w in
     omega (arith, one, whole, le)
 
-row_after : (q n w k : ℕ) → n < q → k ≤ w → n * w + k ≤ q * w
+pub row_after : (q n w k : ℕ) → n < q → k ≤ w → n * w + k ≤ q * w
 row_after q n w k lt le = row_before n q w k lt le
 
 length-units : (ks : List AggKind) → length (units_of ks) ≡ length ks
@@ -93,7 +93,7 @@ in_range [] q x e = absurd (none_some e)
 in_range (y ∷ xs) zero x e = omega arith
 in_range (y ∷ xs) (suc q) x e = let lt = in_range xs q x e in omega (arith, lt)
 
-other_row : (q n : ℕ) → q ≢ n → (q < n) ⊎ (n < q)
+pub other_row : (q n : ℕ) → q ≢ n → (q < n) ⊎ (n < q)
 other_row q n ne = by (cases_lt q n)
   where
     by : (q < n) ⊎ (n ≤ q) → (q < n) ⊎ (n < q)

@@ -1,5 +1,6 @@
 pub mod SlotLemmas
 pub mod CellLemmas
+mod PartSteps
 pub mod OwnerLemmas
 pub mod PoolSteps
 pub mod HeldLemmas

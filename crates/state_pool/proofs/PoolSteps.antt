@@ -1,5 +1,5 @@
 -- Pools as they are made, and the states of their slots.
-use Rattle.std.proofs.Common.{◌≡◌, ◌≢◌, ◌∙◌, ℕ, ◌+◌, ◌*◌, ◌<◌, ◌≤◌, ◌^◌, List, [], ◌∷◌, length, get_or, set, drop, map, sum, slice_get, Option, Some, None, refl, sym, ap, subst, arith, ◌⊎◌, inl, inr, cond}
+use Rattle.std.proofs.Common.{◌≡◌, ◌≢◌, ◌∙◌, ℕ, ◌+◌, ◌*◌, ◌<◌, ◌≤◌, ◌^◌, List, [], ◌∷◌, length, get_or, set, take, drop, map, sum, slice_get, Option, Some, None, refl, sym, ap, subst, arith, ◌⊎◌, inl, inr, cond}
 use Rattle.std.proofs.lemmas.List.{length-map, get_or-take, get_or-drop, length-set}
 use Rattle.std.proofs.lemmas.List.Sums.{sum_by-cons}
 use Rattle.std.proofs.lemmas.Nat.{mul-add-lt}
@@ -13,9 +13,10 @@ use Rattle.agg_laws.specs.declared.aggregate_kind.AggKind.{AggKind}
 use Rattle.agg_laws.specs.declared.states.AggState.{AggState}
 use Rattle.state_pool.specs.declared.pool.Owner.{Owner}
 use Rattle.state_pool.specs.Pool.{Pool, Place, row_of, slots_of, kinds_at, Writes, IsOut, IsNew, states_at, with_state}
-use Rattle.state_pool.specs.Kept.{IsOwner, IsKept, HasRoom, pool_in, most_of, out_of}
+use Rattle.state_pool.specs.Kept.{IsOwner, IsKept, HasRoom, pool_in, most_of, out_of, part_of, with_part}
 use Rattle.state_pool.proofs.SlotLemmas.{held_by, other_held}
-use Rattle.state_pool.proofs.CellLemmas.{in_range, none_free, part_long, part_of_set, rows_of_set}
+use Rattle.state_pool.proofs.CellLemmas.{in_range, none_free, part_long, part_of_set, rows_of_set, row_before, row_after, other_row, part_before, part_after, part_written, length-spliced}
+use Rattle.state_pool.proofs.PartSteps.{length-part}
 use Rattle.state_pool.proofs.OwnerLemmas.{Moved, puts, stays, map_at, kinds_fit, out_holder, states_are}
 
 -- ---- a pool that is new
@@ -101,6 +102,108 @@ wider slots same width h c f more is le room = subst (λ n. HasRoom n width h c 
   free_fit = omega (arith, room.free_fit, le);
 })
 
+-- ---- the cells of a slot written anew
+
+module _ (owners : List Owner) (holders : List (Option ℕ)) (width : ℕ) (cells : List AggState) (free : List ℕ)
+    (kept : IsKept owners (pool_in owners holders width cells) free) (slot : Place)
+    (out : IsOut (pool_in owners holders width cells) slot) (states new_cells : List AggState)
+    (moved : Moved slot.number (pool_in owners holders width cells) (pool_in owners holders width new_cells))
+    (part : take (length (kinds_at (pool_in owners holders width cells) slot.owner)) (drop (slot.number * width) new_cells) ≡ states)
+    (len : length new_cells ≡ length cells) where
+  holder : get_or holders slot.number None ≡ Some slot.owner
+  holder = out_holder (pool_in owners holders width cells) slot out
+
+  pub rewrites : Writes slot states (pool_in owners holders width cells) (pool_in owners holders width new_cells)
+  rewrites = record {
+    quotas = refl;
+    kinds = refl;
+    own = puts slot.number (pool_in owners holders width cells) (pool_in owners holders width new_cells) moved
+        (kinds_fit owners holders width cells free kept) slot.owner states
+        (held_by (pool_in owners holders width new_cells) slot.owner slot.number holder ∙ ap Some part);
+    others = λ other ne. stays slot.number (pool_in owners holders width cells) (pool_in owners holders width new_cells) moved
+        (kinds_fit owners holders width cells free kept) other
+        (other_held (pool_in owners holders width new_cells) slot.owner other slot.number holder ne
+        ∙ sym (other_held (pool_in owners holders width cells) slot.owner other slot.number holder ne));
+  }
+
+  pub rewritten_kept : IsKept owners (pool_in owners holders width new_cells) free
+  rewritten_kept = record {
+    each = λ place d less. let o = kept.each place d less in record {
+      counted = o.counted ∙ same_len place (cases_lt place slot.owner) (cases_lt slot.owner place);
+      within = o.within;
+      fits = o.fits;
+    };
+    known = kept.known;
+    free_are = kept.free_are;
+    all_cells = len ∙ kept.all_cells;
+    all_numbers = kept.all_numbers;
+    few_numbers = kept.few_numbers;
+  }
+    where
+      other : (place : ℕ) → place ≢ slot.owner → finite.len (slots_of (pool_in owners holders width cells) place)
+          ≡ finite.len (slots_of (pool_in owners holders width new_cells) place)
+      other place ne = ap finite.len (sym (rewrites.others place ne))
+
+      same_len : (place : ℕ) → (place < slot.owner) ⊎ (slot.owner ≤ place) → (slot.owner < place) ⊎ (place ≤ slot.owner)
+          → finite.len (slots_of (pool_in owners holders width cells) place) ≡ finite.len (slots_of (pool_in owners holders width new_cells) place)
+      same_len place (inl l) after = other place (λ e. omega (arith, l, e))
+      same_len place (inr ge) (inl l) = other place (λ e. omega (arith, l, e))
+      same_len place (inr ge) (inr le) = let same : slot.owner ≡ place = omega (arith, ge, le) in
+          subst (λ place. finite.len (slots_of (pool_in owners holders width cells) place) ≡ finite.len (slots_of (pool_in owners holders width new_cells) place)) same
+          (sym (ap finite.len rewrites.own ∙ finite.len-insert nat_cmp_total (slots_of (pool_in owners holders width cells) slot.owner) slot.number states
+          ∙ ap (λ b. cond b (finite.len (slots_of (pool_in owners holders width cells) slot.owner)) (finite.len (slots_of (pool_in owners holders width cells) slot.owner) + 1)) out))
+
+-- all of them at once
+module _ (owners : List Owner) (holders : List (Option ℕ)) (width : ℕ) (cells : List AggState) (free : List ℕ)
+    (kept : IsKept owners (pool_in owners holders width cells) free) (slot : Place)
+    (out : IsOut (pool_in owners holders width cells) slot) where
+  pub row_within : slot.number * width + length (kinds_at (pool_in owners holders width cells) slot.owner) ≤ length cells
+  row_within = omega (
+    arith,
+    row_before slot.number (length holders) width (length (kinds_at (pool_in owners holders width cells) slot.owner))
+        (in_range holders slot.number slot.owner (out_holder (pool_in owners holders width cells) slot out)) (kinds_fit owners holders width cells free kept slot.owner),
+    kept.all_cells,
+  )
+
+  -- a row has a state for each kind
+  pub states_long : length (states_at (pool_in owners holders width cells) slot) ≡ length (kinds_at (pool_in owners holders width cells) slot.owner)
+  states_long = ap length (states_are (pool_in owners holders width cells) slot out)
+      ∙ length-part cells (slot.number * width) (length (kinds_at (pool_in owners holders width cells) slot.owner)) row_within
+
+  module _ (states : List AggState) (n : ℕ) (few : n ≡ length (kinds_at (pool_in owners holders width cells) slot.owner)) (len : length states ≡ n) where
+    fits : slot.number * width + n ≤ length cells
+    fits = omega (arith, row_within, few)
+
+    narrow : n ≤ width
+    narrow = omega (arith, few, kinds_fit owners holders width cells free kept slot.owner)
+
+    pub row_moved : Moved slot.number (pool_in owners holders width cells) (pool_in owners holders width (with_part cells (slot.number * width) n states))
+    row_moved = record {
+      quotas = refl;
+      kinds = refl;
+      width = refl;
+      others = λ q ne. refl;
+      rows = λ q m ne less le. by q m le (other_row q slot.number ne);
+    }
+      where
+        by : (q m : ℕ) → m ≤ width → (q < slot.number) ⊎ (slot.number < q)
+            → take m (drop (q * width) (with_part cells (slot.number * width) n states)) ≡ take m (drop (q * width) cells)
+        by q m le (inl lt) = part_before cells states (slot.number * width) n len fits (q * width) m (row_before q slot.number width m lt le)
+        by q m le (inr lt) = part_after cells states (slot.number * width) n len fits (q * width) m (row_after q slot.number width n lt narrow)
+
+    row_part : take (length (kinds_at (pool_in owners holders width cells) slot.owner)) (drop (slot.number * width) (with_part cells (slot.number * width) n states)) ≡ states
+    row_part = ap (λ k. take k (drop (slot.number * width) (with_part cells (slot.number * width) n states))) (sym few)
+        ∙ part_written cells states (slot.number * width) n len fits
+
+    row_length : length (with_part cells (slot.number * width) n states) ≡ length cells
+    row_length = length-spliced cells states (slot.number * width) n len fits
+
+    pub row_rewrites : Writes slot states (pool_in owners holders width cells) (pool_in owners holders width (with_part cells (slot.number * width) n states))
+    row_rewrites = rewrites owners holders width cells free kept slot out states (with_part cells (slot.number * width) n states) row_moved row_part row_length
+
+    pub row_kept : IsKept owners (pool_in owners holders width (with_part cells (slot.number * width) n states)) free
+    row_kept = rewritten_kept owners holders width cells free kept slot out states (with_part cells (slot.number * width) n states) row_moved row_part row_length
+
 -- ---- a state of a slot
 
 module _ (owners : List Owner) (holders : List (Option ℕ)) (width : ℕ) (cells : List AggState) (free : List ℕ)
@@ -146,48 +249,19 @@ module _ (owners : List Owner) (holders : List (Option ℕ)) (width : ℕ) (cell
       rows = λ q few ne less le. rows_of_set cells slot.number q width at few state ne at_width le;
     }
 
+    part_set : take (length (kinds_at (pool_in owners holders width cells) slot.owner)) (drop (slot.number * width) (set cells (slot.number * width + at) state))
+        ≡ set (states_at (pool_in owners holders width cells) slot) at state
+    part_set = part_of_set cells (slot.number * width) (length (kinds_at (pool_in owners holders width cells) slot.owner)) at state
+        ∙ ap (λ (l : List AggState). set l at state) (sym (states_are (pool_in owners holders width cells) slot out))
+
     pub writes : Writes slot (set (states_at (pool_in owners holders width cells) slot) at state)
         (pool_in owners holders width cells) (with_state (pool_in owners holders width cells) slot at state)
-    writes = record {
-      quotas = refl;
-      kinds = refl;
-      own = puts slot.number (pool_in owners holders width cells) (with_state (pool_in owners holders width cells) slot at state) written
-          (kinds_fit owners holders width cells free kept) slot.owner (set (states_at (pool_in owners holders width cells) slot) at state)
-          (held_by (with_state (pool_in owners holders width cells) slot at state) slot.owner slot.number here
-          ∙ ap Some (part_of_set cells (slot.number * width) (length (kinds_at (pool_in owners holders width cells) slot.owner)) at state
-          ∙ ap (λ (l : List AggState). set l at state) (sym (states_are (pool_in owners holders width cells) slot out))));
-      others = λ other ne. stays slot.number (pool_in owners holders width cells) (with_state (pool_in owners holders width cells) slot at state) written
-          (kinds_fit owners holders width cells free kept) other
-          (other_held (with_state (pool_in owners holders width cells) slot at state) slot.owner other slot.number here ne
-          ∙ sym (other_held (pool_in owners holders width cells) slot.owner other slot.number here ne));
-    }
+    writes = rewrites owners holders width cells free kept slot out (set (states_at (pool_in owners holders width cells) slot) at state)
+        (set cells (slot.number * width + at) state) written part_set (length-set cells (slot.number * width + at) state)
 
     pub written_kept : IsKept owners (with_state (pool_in owners holders width cells) slot at state) free
-    written_kept = record {
-      each = λ place d less. let o = kept.each place d less in record {
-        counted = o.counted ∙ same_len place (cases_lt place slot.owner) (cases_lt slot.owner place);
-        within = o.within;
-        fits = o.fits;
-      };
-      known = kept.known;
-      free_are = kept.free_are;
-      all_cells = length-set cells (slot.number * width + at) state ∙ kept.all_cells;
-      all_numbers = kept.all_numbers;
-      few_numbers = kept.few_numbers;
-    }
-      where
-        other : (place : ℕ) → place ≢ slot.owner → finite.len (slots_of (pool_in owners holders width cells) place)
-            ≡ finite.len (slots_of (with_state (pool_in owners holders width cells) slot at state) place)
-        other place ne = ap finite.len (sym (writes.others place ne))
-
-        same_len : (place : ℕ) → (place < slot.owner) ⊎ (slot.owner ≤ place) → (slot.owner < place) ⊎ (place ≤ slot.owner)
-            → finite.len (slots_of (pool_in owners holders width cells) place) ≡ finite.len (slots_of (with_state (pool_in owners holders width cells) slot at state) place)
-        same_len place (inl l) after = other place (λ e. omega (arith, l, e))
-        same_len place (inr ge) (inl l) = other place (λ e. omega (arith, l, e))
-        same_len place (inr ge) (inr le) = let same : slot.owner ≡ place = omega (arith, ge, le) in
-            subst (λ place. finite.len (slots_of (pool_in owners holders width cells) place) ≡ finite.len (slots_of (with_state (pool_in owners holders width cells) slot at state) place)) same
-            (sym (ap finite.len writes.own ∙ finite.len-insert nat_cmp_total (slots_of (pool_in owners holders width cells) slot.owner) slot.number (set (states_at (pool_in owners holders width cells) slot) at state)
-            ∙ ap (λ b. cond b (finite.len (slots_of (pool_in owners holders width cells) slot.owner)) (finite.len (slots_of (pool_in owners holders width cells) slot.owner) + 1)) out))
+    written_kept = rewritten_kept owners holders width cells free kept slot out (set (states_at (pool_in owners holders width cells) slot) at state)
+        (set cells (slot.number * width + at) state) written part_set (length-set cells (slot.number * width + at) state)
 
 -- the same of a pool and a slot that are seen as these
 module _ (owners : List Owner) (holders : List (Option ℕ)) (width : ℕ) (cells : List AggState) (free : List ℕ)
@@ -201,6 +275,34 @@ module _ (owners : List Owner) (holders : List (Option ℕ)) (width : ℕ) (cell
 
   pub known_owner : owner < length owners
   known_owner = kept.known number owner seen_holder
+
+  pub seen_row : number * width + length (kinds_at pool slot.owner) ≤ length cells
+  seen_row = subst (λ (p : Pool). number * width + length (kinds_at p slot.owner) ≤ length cells) pool_is
+      (subst (λ (s : Place). number * width + length (kinds_at (pool_in owners holders width cells) s.owner) ≤ length cells) slot_is
+      (row_within owners holders width cells free kept (record { owner = owner; number = number }) seen_out))
+
+  pub seen_long : length (states_at pool slot) ≡ length (kinds_at pool slot.owner)
+  seen_long = subst (λ (p : Pool). length (states_at p slot) ≡ length (kinds_at p slot.owner)) pool_is
+      (subst (λ (s : Place). length (states_at (pool_in owners holders width cells) s) ≡ length (kinds_at (pool_in owners holders width cells) s.owner)) slot_is
+      (states_long owners holders width cells free kept (record { owner = owner; number = number }) seen_out))
+
+  pub seen_states : (n : ℕ) → n ≡ length (kinds_at pool slot.owner) → part_of cells (number * width) n ≡ states_at pool slot
+  seen_states n few = ap (part_of cells (number * width)) few
+      ∙ subst (λ (p : Pool). part_of cells (number * width) (length (kinds_at p slot.owner)) ≡ states_at p slot) pool_is
+      (subst (λ (s : Place). part_of cells (number * width) (length (kinds_at (pool_in owners holders width cells) s.owner)) ≡ states_at (pool_in owners holders width cells) s) slot_is
+      (sym (states_are (pool_in owners holders width cells) (record { owner = owner; number = number }) seen_out)))
+
+  module _ (states : List AggState) (n : ℕ) (few : n ≡ length (kinds_at pool slot.owner)) (len : length states ≡ n) where
+    seen_few : n ≡ length (kinds_at (pool_in owners holders width cells) owner)
+    seen_few = subst (λ (p : Pool). n ≡ length (kinds_at p owner)) (sym pool_is) (subst (λ (s : Place). n ≡ length (kinds_at pool s.owner)) (sym slot_is) few)
+
+    pub seen_rewrites : Writes slot states pool (pool_in owners holders width (with_part cells (number * width) n states))
+    seen_rewrites = subst (λ (p : Pool). Writes slot states p (pool_in owners holders width (with_part cells (number * width) n states))) pool_is
+        (subst (λ (s : Place). Writes s states (pool_in owners holders width cells) (pool_in owners holders width (with_part cells (number * width) n states))) slot_is
+        (row_rewrites owners holders width cells free kept (record { owner = owner; number = number }) seen_out states n seen_few len))
+
+    pub seen_row_kept : IsKept owners (pool_in owners holders width (with_part cells (number * width) n states)) free
+    seen_row_kept = row_kept owners holders width cells free kept (record { owner = owner; number = number }) seen_out states n seen_few len
 
   module _ (at : ℕ) (lt : at < length (kinds_at pool slot.owner)) where
     pub seen_at : at < length (kinds_at (pool_in owners holders width cells) owner)

@@ -1,6 +1,6 @@
 -- What is kept of a pool.
 use Rattle.std.specs.Prelude.{◌≡◌, ◌≢◌, ℕ, ◌+◌, ◌-◌, ◌*◌, ◌<◌, ◌≤◌, ◌^◌, List, length, map, slice_index_or}
-use Rattle.std.specs.Prelude.{Option, Some, None, take, drop}
+use Rattle.std.specs.Prelude.{Option, Some, None, take, drop, ◌++◌}
 use Rattle.std.specs.List.{sum_by}
 use Rattle.agg_laws.specs.declared.aggregate_kind.AggKind.{AggKind}
 use Rattle.agg_laws.specs.declared.states.AggState.{AggState}
@@ -15,6 +15,14 @@ most_of owners = sum_by (λ owner. owner.quota) owners
 -- how many slots are out
 abbrev pub out_of : List Owner → ℕ
 out_of owners = sum_by (λ owner. owner.held) owners
+
+-- so many cells from a place on
+abbrev pub part_of : List AggState → ℕ → ℕ → List AggState
+part_of cells from count = take count (drop from cells)
+
+-- the cells with others in the place of these
+abbrev pub with_part : List AggState → ℕ → ℕ → List AggState → List AggState
+with_part cells from count states = take from cells ++ (states ++ drop (from + count) cells)
 
 -- the pool that is kept
 abbrev pub pool_in : List Owner → List (Option ℕ) → ℕ → List AggState → Pool

@@ -1,6 +1,7 @@
 //! A pool of slots, each a row of states: owners take them within their quotas, and give them back.
 #![tactic(auto)]
 
+mod cells;
 mod laws;
 mod pool;
 mod slot;

@@ -1,18 +1,21 @@
 //! Pools of slots.
 
 ghost use Rattle.std.specs.Prelude.{◌≡◌, ℕ, ◌+◌, ◌*◌, ◌<◌, ◌≤◌, ◌^◌, ◌↔◌, ◌++◌, [], length, map, sum};
-ghost use Rattle.std.specs.Prelude.{slice_get, slice_set, Some, None, IfOk, IfSome, vec_capacity};
+ghost use Rattle.std.specs.Prelude.{◌∷◌, slice_get, slice_set, Some, None, IfOk, IfSome, vec_capacity};
 ghost use Rattle.std.specs.Borrow.{sem};
+ghost use Rattle.agg_laws.specs.Numbers.{most_values};
+ghost use Rattle.agg_laws.specs.Rows.{row_of, kinds_of, merged_rows, RowFits};
 ghost use Rattle.state_pool.specs.Pool.{IsNew, IsOut, Takes, GivesBack, Writes};
 ghost use Rattle.state_pool.specs.Pool.{quota_of, kinds_at, held, states_at, with_state};
 ghost use Rattle.state_pool.specs.Kept.{AreFree, HasRoom, TakesCells, TakesNumber};
 ghost use Rattle.state_pool.specs.Lent.{LendsState};
 
+use crate::cells::{add_cells, merge_cells};
 use crate::slot::Slot;
 use crate::units::{add_spare, add_units, write_units};
 use agg_laws::{AggKind, AggState, Kinds, NoMemory};
 use data_types::Seq;
-use state_columns::put_all;
+use state_columns::{StateRow, put_all};
 use std::alloc::Global;
 use std::marker::Model;
 
@@ -66,6 +69,14 @@ impl SlotPool {
             cells: Vec::with_capacity(alloc, slots * kinds.len())?,
             free: Vec::with_capacity(alloc, slots)?,
         })
+    }
+
+    /// How many slots an owner may hold.
+    pub fn quota(&self, owner: u16) -> u32
+        requires { owner < length self.now.quotas }
+        ensures { result ≡ quota_of self.now owner }
+    {
+        self.owners[owner as usize].quota
     }
 
     /// How many slots an owner may still take.
@@ -130,6 +141,32 @@ impl SlotPool {
             (with_state self.old slot.now at state) }
     {
         &mut self.cells[slot.number as usize * self.width + at as usize]
+    }
+
+    /// One more value in each place of a slot. No other slot changes.
+    pub fn add(&mut self, slot: &Slot, values: &[i64])
+        requires out { IsOut self.old slot.now }
+        requires length { length values.now ≡ length (kinds_at self.old slot.now.owner) }
+        requires fits { let own = states_at self.old slot.now in
+            RowFits (merged_rows own (row_of (kinds_of own) (values.now ∷ []))) most_values }
+        ensures { let own = states_at self.old slot.now in Writes slot.now
+            (merged_rows own (row_of (kinds_of own) (values.now ∷ []))) self.old self.new }
+    {
+        let from = slot.number as usize * self.width;
+        add_cells(self.cells.as_mut_slice(), from, values);
+    }
+
+    /// The values of other states of the same kinds too, place by place. No other slot changes.
+    pub fn merge(&mut self, slot: &Slot, states: &StateRow)
+        requires out { IsOut self.old slot.now }
+        requires kinds { kinds_of (states_at self.old slot.now) ≡ kinds_of states.now }
+        requires fits { RowFits (merged_rows (states_at self.old slot.now) states.now)
+            most_values }
+        ensures { Writes slot.now (merged_rows (states_at self.old slot.now) states.now)
+            self.old self.new }
+    {
+        let from = slot.number as usize * self.width;
+        merge_cells(self.cells.as_mut_slice(), from, states.as_slice());
     }
 }
 

@@ -7,6 +7,7 @@ use Rattle.table_schema.specs.Conditions.{all_hold}
 use Rattle.table_schema.specs.declared.query.BoundQuery.{BoundQuery}
 use Rattle.group_table.specs.Groups.{groups_of}
 use Rattle.group_table.specs.Kept.{KeptGroups, groups_in}
+use Rattle.group_table.specs.QueryPool.{Limits}
 use Rattle.group_table.specs.Shape.{shape_of}
 use Rattle.scan_engine.specs.Scanned.{AddsRows, IsOverfull, selected}
 use Rattle.scan_engine.proofs.AddLemmas.{len_more}
@@ -21,12 +22,12 @@ pub block_added : (query : BoundQuery) (count : ℕ) (done rows : List (List Val
 block_added query count done rows old new a so = a.groups (selected query done) so ∙ ap (groups_of (shape_of query)) (both_selected query done rows)
 
 -- too many groups before the end of a text are too many at its end
-pub overfull_text : (query : BoundQuery) (done rows rest : List (List Value)) (table : KeptGroups) → table.most ≡ most_groups
+pub overfull_text : (query : BoundQuery) (done rows rest : List (List Value)) (table : KeptGroups) → Limits query most_groups table.most
     → IsOverfull query (selected query rows) table → groups_in table ≡ groups_of (shape_of query) (selected query done)
     → most_groups < finite.len (groups_of (shape_of query) (selected query ((done ++ rows) ++ rest)))
-overfull_text query done rows rest table most over so =
+overfull_text query done rows rest table limits over so =
     let here : table.most < finite.len (groups_of (shape_of query) (selected query done ++ selected query rows)) = over (selected query done) so in
     let more = len_more (shape_of query) (selected query done ++ selected query rows) (selected query rest) in
     let same : (selected query done ++ selected query rows) ++ selected query rest ≡ selected query ((done ++ rows) ++ rest) =
     ap (λ l. l ++ selected query rest) (both_selected query done rows) ∙ both_selected query (done ++ rows) rest in
-    subst (λ l. 100000 < finite.len (groups_of (shape_of query) l)) same (omega (arith, here, more, most))
+    limits.same (selected query ((done ++ rows) ++ rest)) (subst (λ l. table.most < finite.len (groups_of (shape_of query) l)) same (omega (arith, here, more)))

@@ -4,6 +4,8 @@ ghost use Rattle.values.specs.declared.value.Value.{Value};
 ghost use Rattle.csv_ingest.specs.Blocks.{RowsOrFault};
 ghost use Rattle.csv_ingest.specs.NumberBlocks.{Gives, GivesBlock, IsNumberBlocks};
 ghost use Rattle.group_table.specs.Kept.{IsNew, IsTableOf};
+ghost use Rattle.group_table.specs.Pooled.{IsTableIn, in_pool};
+ghost use Rattle.group_table.specs.QueryPool.{Limits};
 ghost use Rattle.scan_engine.specs.Numbers.{AreNumbers};
 ghost use Rattle.text_scan.specs.Parts.{GroupsRows, IsText, IsTextFault};
 ghost use Rattle.sql_reply.specs.Reply.{most_groups};
@@ -12,7 +14,7 @@ ghost use Rattle.text_scan.specs.TextReply.{text_fault};
 use crate::ScanFault;
 use crate::named::named_columns;
 use csv_ingest::{CsvFault, NumberBlocks};
-use group_table::{GroupTable, TableFault};
+use group_table::{GroupTable, SlotPool, TableFault};
 use scan_engine::add_block;
 use std::alloc::Global;
 use table_schema::BoundQuery;
@@ -41,20 +43,25 @@ pub(crate) fn group_text(
     blocks: &mut NumberBlocks<'_>,
     bound: &BoundQuery,
     table: &mut GroupTable,
+    pool: &mut SlotPool,
 ) -> Result<bool, ScanFault>
     requires text { IsText blocks.old }
-    requires table { IsNew bound.now most_groups table.old }
+    requires pooled { IsTableIn table.old pool.old }
+    requires table { IsNew bound.now table.old.most (in_pool table.old pool.old) }
+    requires limits { Limits bound.now most_groups table.old.most }
     ensures ok { IfOk result (λ room. (whole : RowsOrFault) → Gives blocks.old whole →
         (rows : List (List Value)) × (whole ≡ Ok rows)
-        × GroupsRows room bound.now rows table.new) }
-    ensures table { IfOk result (λ room. room ≡ true → IsTableOf bound.now table.new) }
-    ensures most { IfOk result (λ room. room ≡ true → table.new.most ≡ most_groups) }
+        × GroupsRows room bound.now rows (in_pool table.new pool.new)) }
+    ensures table { IfOk result (λ room. room ≡ true
+        → IsTableOf bound.now (in_pool table.new pool.new)) }
+    ensures most { IfOk result (λ room. room ≡ true → table.new.most ≤ most_groups) }
+    ensures pooled { IfOk result (λ room. room ≡ true → IsTableIn table.new pool.new) }
     ensures err { IfErr result (λ fault. (whole : RowsOrFault) → Gives blocks.old whole →
         IsTextFault whole fault) }
 {
     let named = named_columns(alloc, bound, blocks.header.fields.len())?;
     'reading: while let Some(block) = next_rows(alloc, blocks, &named)? {
-        match add_block(alloc, bound, &block, table) {
+        match add_block(alloc, bound, &block, table, pool) {
             Ok(()) => {}
             Err(TableFault::TooManyGroups) => {
                 pass_over(alloc, blocks)?;

@@ -12,7 +12,7 @@ use crate::ScanFault;
 use crate::bound::bound_query;
 use crate::groups::{csv_fault, group_text, pass_over};
 use csv_ingest::{NumberBlocks, number_blocks};
-use group_table::GroupTable;
+use group_table::{GroupTable, pool_for};
 use outside::Bytes;
 use sql_reply::{MOST_GROUPS, answer};
 use std::alloc::Global;
@@ -63,9 +63,10 @@ fn group_reply(
     requires valid { (over : Table) × IsValidQuery over bound.now }
     ensures { RepliesToAll (λ whole. Gives blocks.old whole) bound.now result }
 {
-    let mut table = GroupTable::new(alloc, bound, MOST_GROUPS)?;
-    if group_text(alloc, blocks, bound, &mut table)? {
-        Ok(answer(alloc, bound, &table)?)
+    let mut pool = pool_for(alloc, bound, MOST_GROUPS)?;
+    let mut table = GroupTable::new(alloc, bound, &mut pool, 0)?;
+    if group_text(alloc, blocks, bound, &mut table, &mut pool)? {
+        Ok(answer(alloc, bound, &table, &pool)?)
     } else {
         Err(ScanFault::TooManyGroups(MOST_GROUPS))
     }

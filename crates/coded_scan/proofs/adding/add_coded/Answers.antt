@@ -15,10 +15,11 @@ use Rattle.coded_scan.specs.Added.{AddsOrFills}
 use Rattle.coded_scan.specs.RowFilters.{all_let, passing}
 use Rattle.segment_plan.specs.Served.{rest_of, unserved}
 use Rattle.coded_scan.proofs.AddSteps.{passing-rows}
+use Rattle.group_table.specs.Pooled.{in_pool}
 use Rattle.coded_scan.proofs.adding.add_coded.Goals as goal
 
-pub returns : goal.returns
-returns c =
+pub returns-clause-adds : goal.returns-clause-adds
+returns-clause-adds c =
     let q : BoundQuery = c.args.query.now in
     let rest : BoundQuery = rest_of q c.args.choices.now in
     let b : ListedColumns = table_of c.args.segment.now in
@@ -29,4 +30,4 @@ returns c =
     let many : length (rows_of b) ≡ b.count = length-rows b.count b.columns (counts c.args.segment.now) in
     let rows : rows_at b.columns (passing holds 0 b.count) ≡ selected rest (rows_of b) =
     passing-rows c.args.segment.now rest holds same b.count (omega arith) ∙ ap (selected rest) (take_all b.count (rows_of b) (omega (arith, many))) in
-    subst (λ (l : List (List Value)). AddsOrFills q b.count l c.args.table.now c.merge_keys.new.table c.merge_keys.result) rows c.merge_keys.ensures
+    subst (λ (l : List (List Value)). AddsOrFills q b.count l (in_pool c.args.table.now c.args.pool.now) (in_pool c.merge_keys.new.table c.merge_keys.new.pool) c.merge_keys.result) rows c.merge_keys.ensures.adds

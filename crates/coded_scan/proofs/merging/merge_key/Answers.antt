@@ -18,6 +18,7 @@ use Rattle.coded_columns.proofs.KeyedSteps.{in-agg, row-fits, row-states}
 use Rattle.coded_columns.proofs.SlotLemmas.{in_slot-few}
 use Rattle.coded_scan.specs.Passed.{passed, passed_rows, run_of}
 use Rattle.coded_scan.proofs.KeyedMerges.{key-none, key-run, passed-few}
+use Rattle.group_table.specs.Pooled.{in_pool}
 use Rattle.coded_scan.proofs.merging.merge_key.Goals as goal
 
 pub key_at-requires : goal.key_at-requires
@@ -99,10 +100,10 @@ merge_row-requires-clause-fits c =
     let fits : RowFits c.in_ok-states.states (length run) = subst (λ (s : List AggState). RowFits s (length run)) (sym c.in_ok-states.ensures) (row-fits (length firsts) keys (passed_rows rows) q.aggs owns k holds.states c.requires.key) in
     let at_most : length run ≤ most_values =
     omega (arith, in_slot-few k keys (passed_rows rows), length-map places (row_of (table_of segment).columns), passed-few rows, segment.coded.at_most) in
-    merged_within (groups_in c.args.table.now) c.in_ok-own.own c.in_ok-states.states (length run) at_most c.requires.may.fits fits
+    merged_within (groups_in (in_pool c.args.table.now c.args.pool.now)) c.in_ok-own.own c.in_ok-states.states (length run) at_most c.requires.may.fits fits
 
-pub returns-then-first-eq0 : goal.returns-then-first-eq0
-returns-then-first-eq0 c = λ keys holds.
+pub returns-then-first-eq0-clause-adds : goal.returns-then-first-eq0-clause-adds
+returns-then-first-eq0-clause-adds c = λ keys holds.
     let q = c.args.query.now in
     let rows = c.args.rows in
     let segment = rows.segment.now in
@@ -114,13 +115,13 @@ returns-then-first-eq0 c = λ keys holds.
     let run : List (List Value) = run_of rows keys k in
     let none : run ≡ [] = key-none segment q.groups q.aggs keys places c.args.keyed.now holds k c.requires.key (omega (arith, first, c.if-first-eq0.true)) in
     record {
-      ok = subst (λ (l : List (List Value)). AddsRows q (length l) l c.args.table.now c.args.table.now) (sym none) (adds_nothing q 0 c.args.table.now c.requires.table);
+      ok = subst (λ (l : List (List Value)). AddsRows q (length l) l (in_pool c.args.table.now c.args.pool.now) (in_pool c.args.table.now c.args.pool.now)) (sym none) (adds_nothing q 0 (in_pool c.args.table.now c.args.pool.now) c.requires.table);
       full = λ bad. absurd cc;
       filled = λ bad. absurd cc;
     }
 
-pub returns-in-Err : goal.returns-in-Err
-returns-in-Err c = λ keys holds.
+pub returns-in-Err-clause-adds : goal.returns-in-Err-clause-adds
+returns-in-Err-clause-adds c = λ keys holds.
     let q = c.args.query.now in
     let rows = c.args.rows in
     let segment = rows.segment.now in
@@ -139,15 +140,15 @@ returns-in-Err c = λ keys holds.
       ok = tt;
       full = λ bad.
           let full = c.merge_row.ensures.full.0 (c.in-Err.is ∙ same_fault _ _ bad) in
-          no_room_for_run q run c.in_ok-own.own c.args.table.now r full.0 full.1;
+          no_room_for_run q run c.in_ok-own.own (in_pool c.args.table.now c.args.pool.now) r full.0 full.1;
       filled = λ bad.
           let full = c.merge_row.ensures.full.0 (c.in-Err.is ∙ same_fault _ _ bad) in
-          let same : c.merge_row.new.self ≡ c.args.table.now = c.in-Err.ensures.err in
+          let same : in_pool c.merge_row.new.self c.merge_row.new.pool ≡ in_pool c.args.table.now c.args.pool.now = λ i. in_pool (c.in-Err.ensures.err.0 i) (c.in-Err.ensures.err.1 i) in
           ap (λ (t : KeptGroups). finite.len (groups_in t)) same ∙ full.1;
     }
 
-pub returns : goal.returns
-returns c = λ keys holds.
+pub returns-clause-adds : goal.returns-clause-adds
+returns-clause-adds c = λ keys holds.
     let q = c.args.query.now in
     let rows = c.args.rows in
     let segment = rows.segment.now in
@@ -165,7 +166,7 @@ returns c = λ keys holds.
     ∙ ap (λ (f : ℕ). key_of q.groups (row_of (table_of segment).columns (f - 1))) first in
     let r : IsRun q.groups c.in_ok-own.own run = key-run segment q.groups q.aggs keys places c.args.keyed.now holds k c.in_ok-own.own c.requires.key some values in
     record {
-      ok = adds_run q (length run) run c.in_ok-own.own c.in_ok-states.states c.args.table.now c.merge_row.new.self c.requires.table r row_is fits c.in_default.ensures.ok;
+      ok = adds_run q (length run) run c.in_ok-own.own c.in_ok-states.states (in_pool c.args.table.now c.args.pool.now) (in_pool c.merge_row.new.self c.merge_row.new.pool) c.requires.table r row_is fits c.in_default.ensures.ok;
       full = λ bad. absurd cc;
       filled = λ bad. absurd cc;
     }

@@ -31,6 +31,8 @@ use Rattle.star_answer.proofs.TreeLogs.{answer_in_file, answer_partly}
 use Rattle.segment_scan.proofs.ScanLogs.{scan_in_file, scan_partly}
 use Rattle.query_executor.proofs.SegmentLemmas.{adds_answered, adds_none, adds_scanned, bad_answered, bad_scanned, overfull_answered, overfull_scanned, room}
 use Rattle.query_executor.proofs.adding.add_planned.Goals as goal
+use Rattle.group_table.specs.Pooled.{in_pool}
+use Rattle.group_table.proofs.SlotFrames.{stays_same}
 use Rattle.segment_head.specs.declared.stored.Stored.{Stored}
 
 scan_plan : (query : BoundQuery) (table : Table) → HeadTells → PlanIsOver → IsValidTable table → IsValidQuery table query → (files : Files) (segment : Stored) (head : Seen) (plan : ScanPlan) → Scan plan ≡ plan_of query table head → AreLoaded query.conjuncts head → IsHeadIn table (Some files) segment head → (rows : List (List Value)) → HasImage table files segment rows
@@ -56,18 +58,19 @@ scan_segment-requires g c =
     let head = c.args.head.now in
     let planned = planned_as query table head c.in_ok-plan.field-0 (Scan c.in-Scan.plan) c.in-Scan.is c.in_ok-plan.ensures in
     record {
+      pooled = c.requires.pooled;
       scans = record {
         valid = c.requires.loaded.asked.valid;
         of_table = c.requires.loaded.asked.of_table;
         loaded = c.requires.loaded.named (scan_unpicked query table head c.in-Scan.plan planned);
         of_query = c.requires.room.of_query;
-        fits = room table head c.args.groups.now c.requires.loaded.asked.of_table c.requires.room.fits;
+        fits = room table head (in_pool c.args.groups.now c.args.pool.now) c.requires.loaded.asked.of_table c.requires.room.fits;
       };
       planned = scan_planned query table head c.in-Scan.plan planned;
     }
 
-pub answer_segment-requires : goal.answer_segment-requires
-answer_segment-requires g c =
+pub answer_segment-requires-clause-room : goal.answer_segment-requires-clause-room
+answer_segment-requires-clause-room g c =
     let query = c.args.query.now in
     let table = c.args.table.now in
     let head = c.args.head.now in
@@ -81,7 +84,7 @@ answer_segment-requires g c =
       loaded = c.requires.loaded.filtered;
       groups_loaded = c.requires.loaded.grouped;
       of_query = c.requires.room.of_query;
-      fits = room table head c.args.groups.now c.requires.loaded.asked.of_table c.requires.room.fits;
+      fits = room table head (in_pool c.args.groups.now c.args.pool.now) c.requires.loaded.asked.of_table c.requires.room.fits;
     }
 
 pub returns-in_err-plan : goal.returns-in_err-plan
@@ -92,6 +95,7 @@ returns-in_err-plan g c =
     let a : outside.Seen = seen g.S.Shelf c.args.shelf.now in
     let is = gives_fault _ r engine.NoMemory c.from_residual.ensures.1 in
     record {
+      stays = stays_same c.args.groups.now c.args.pool.now c.requires.pooled;
       adds = λ segment o. record {
         added = fault_ok _ r engine.NoMemory _ is;
         opens = fault_ok _ r engine.NoMemory _ is;
@@ -120,8 +124,9 @@ returns-in-Ok g c =
     let named = c.requires.loaded.named (scan_unpicked query table head plan planned) in
     let chosen = scan_planned query table head plan planned in
     record {
+      stays = c.scan_segment.ensures.stays;
       adds = λ segment o. let is = o.image in let spread = o.spread in let inside = o.placed in record {
-        added = adds_scanned query table segment head a.held c.args.groups.now c.scan_segment.new.groups c.requires.loaded.asked.of_table c.in-Ok.ensures.ok is;
+        added = adds_scanned query table segment head a.held (in_pool c.args.groups.now c.args.pool.now) (in_pool c.scan_segment.new.groups c.scan_segment.new.pool) c.requires.loaded.asked.of_table c.in-Ok.ensures.ok is;
         opens = o.opening;
         full = λ e. absurd (no_fault _ _ engine.TooManyGroups e);
         filled = λ e. absurd (no_fault _ _ engine.TooManyGroups e);
@@ -151,10 +156,11 @@ returns-in-Err g c =
     let named = c.requires.loaded.named (scan_unpicked query table head plan planned) in
     let chosen = scan_planned query table head plan planned in
     record {
+      stays = c.scan_segment.ensures.stays;
       adds = λ segment o. let is = o.image in let spread = o.spread in let inside = o.placed in record {
         added = tt;
         opens = tt;
-        full = λ e. overfull_scanned query table segment head a.held c.args.groups.now (c.in-Err.ensures.full (ap Err (own_fault _ fault engine.TooManyGroups e))) is;
+        full = λ e. overfull_scanned query table segment head a.held (in_pool c.args.groups.now c.args.pool.now) (c.in-Err.ensures.full (ap Err (own_fault _ fault engine.TooManyGroups e))) is;
         filled = λ e. c.in-Err.ensures.filled (ap Err (own_fault _ fault engine.TooManyGroups e));
         bad = λ part e.
             let bad = c.in-Err.ensures.bad part (ap Err (own_fault _ fault (engine.NotASegment part) e)) in
@@ -179,8 +185,9 @@ returns-in-Pruned g c =
     let all : (segment : Stored) → IsHeadIn table a.held segment head → IsDoneIn query table a.held segment c.nothing.result.plan c.nothing.result.docs =
     λ segment is. none_done query table c.head_tells_law.ensures c.plan_over_law.ensures c.requires.loaded.asked.valid c.requires.loaded.asked.query a.held segment head c.nothing.result.plan Pruned c.nothing.result.docs c.nothing.ensures.plan planned (inr c.requires.loaded.filtered) (λ rows. refl) c.nothing.ensures.none is in
     record {
+      stays = stays_same c.args.groups.now c.args.pool.now c.requires.pooled;
       adds = λ segment o. let is = o.image in let spread = o.spread in let inside = o.placed in record {
-        added = adds_none query table segment head c.head_tells_law.ensures c.requires.loaded.asked.valid a.held c.args.groups.now c.requires.room.of_query (λ rows tells. c.pruned_law.ensures query table rows head tells (is_pruned_so query table head planned)) is;
+        added = adds_none query table segment head c.head_tells_law.ensures c.requires.loaded.asked.valid a.held (in_pool c.args.groups.now c.args.pool.now) c.requires.room.of_query (λ rows tells. c.pruned_law.ensures query table rows head tells (is_pruned_so query table head planned)) is;
         opens = o.opening;
         full = λ e. absurd (no_fault _ _ engine.TooManyGroups e);
         filled = λ e. absurd (no_fault _ _ engine.TooManyGroups e);
@@ -203,8 +210,9 @@ returns-in-Empty g c =
     let all : (segment : Stored) → IsHeadIn table a.held segment head → IsDoneIn query table a.held segment c.nothing-in-Empty.result.plan c.nothing-in-Empty.result.docs =
     λ segment is. none_done query table c.head_tells_law.ensures c.plan_over_law.ensures c.requires.loaded.asked.valid c.requires.loaded.asked.query a.held segment head c.nothing-in-Empty.result.plan Empty c.nothing-in-Empty.result.docs c.nothing-in-Empty.ensures.plan planned (inr c.requires.loaded.filtered) (λ rows. refl) c.nothing-in-Empty.ensures.none is in
     record {
+      stays = stays_same c.args.groups.now c.args.pool.now c.requires.pooled;
       adds = λ segment o. let is = o.image in let spread = o.spread in let inside = o.placed in record {
-        added = adds_none query table segment head c.head_tells_law.ensures c.requires.loaded.asked.valid a.held c.args.groups.now c.requires.room.of_query (λ rows tells. c.empty_law.ensures query.conjuncts table rows head tells c.requires.loaded.filtered (is_empty_so query table head planned)) is;
+        added = adds_none query table segment head c.head_tells_law.ensures c.requires.loaded.asked.valid a.held (in_pool c.args.groups.now c.args.pool.now) c.requires.room.of_query (λ rows tells. c.empty_law.ensures query.conjuncts table rows head tells c.requires.loaded.filtered (is_empty_so query table head planned)) is;
         opens = o.opening;
         full = λ e. absurd (no_fault _ _ engine.TooManyGroups e);
         filled = λ e. absurd (no_fault _ _ engine.TooManyGroups e);
@@ -229,8 +237,9 @@ returns-in-Ok-answer_segment g c =
     let within = picked_within query table.settings.trees tree (tree_planned query table head tree planned) in
     let docs = c.in-Ok-answer_segment.read in
     record {
+      stays = c.answer_segment.ensures.stays;
       adds = λ segment o. let is = o.image in let spread = o.spread in let inside = o.placed in record {
-        added = adds_answered query table segment head a.held c.args.groups.now c.answer_segment.new.groups c.requires.loaded.asked.of_table c.in-Ok-answer_segment.ensures.ok is;
+        added = adds_answered query table segment head a.held (in_pool c.args.groups.now c.args.pool.now) (in_pool c.answer_segment.new.groups c.answer_segment.new.pool) c.requires.loaded.asked.of_table c.in-Ok-answer_segment.ensures.ok is;
         opens = o.opening;
         full = λ e. absurd (no_fault _ _ engine.TooManyGroups e);
         filled = λ e. absurd (no_fault _ _ engine.TooManyGroups e);
@@ -258,11 +267,12 @@ returns-in-Err-answer_segment g c =
     let within = picked_within query table.settings.trees tree (tree_planned query table head tree planned) in
     let fault = c.in-Err-answer_segment.fault in
     record {
+      stays = c.answer_segment.ensures.stays;
       adds = λ segment o. let is = o.image in let spread = o.spread in let inside = o.placed in record {
         added = tt;
         opens = tt;
         full = λ e.
-            overfull_answered query table segment head a.held c.args.groups.now
+            overfull_answered query table segment head a.held (in_pool c.args.groups.now c.args.pool.now)
             (c.in-Err-answer_segment.ensures.full (ap Err (own_fault _ fault engine.TooManyGroups e))) is;
         filled = λ e. c.in-Err-answer_segment.ensures.filled (ap Err (own_fault _ fault engine.TooManyGroups e));
         bad = λ part e.

@@ -2,7 +2,7 @@ use Rattle.std.proofs.Common.{◌∙◌, ◌-◌, ◌*◌, ℕ, List, Err, IfSom
 use Rattle.outside.specs.Seen.{Seen, seen}
 use Rattle.sql_reply.specs.declared.fault.SqlFault.TheVariants.{NoMemory, TooManyGroups}
 use Rattle.query_executor.specs.Answers.{IsBoundReply}
-use Rattle.query_executor.specs.Passes.{HaveOpenings}
+use Rattle.query_executor.specs.Passes.{HaveOpenings, kept_by}
 use Rattle.query_executor.specs.declared.fault.ExecutorFault.TheVariants.{Sql}
 use Rattle.query_executor.proofs.EndLemmas.{fault_if, fault_ok, gives_fault, memory_refused, no_fault, own_fault}
 use Rattle.query_executor.proofs.PassLemmas.{pass_done, pass_failed, pass_lacking, pass_unread}
@@ -21,9 +21,10 @@ use Rattle.segment_head.specs.declared.stored.Stored.{Stored}
 
 pub answer-requires : goal.answer-requires
 answer-requires g c = record {
+  pooled = c.pass_over.ensures.stays.table;
   table = c.in-Ok.ensures.made.of_query;
   valid = (c.args.table.now, c.requires.query);
-  most = c.in-Ok.ensures.made.most ∙ c.in_ok-pass.ensures.groups.most_is;
+  most = let is = c.in-Ok.ensures.made.most in let le = c.in_ok-pass.ensures.limits.within in omega (arith, is, le);
 }
 
 pub returns-in_err-pass : goal.returns-in_err-pass
@@ -45,11 +46,11 @@ pub pass_over-requires : goal.pass_over-requires
 pass_over-requires g c =
     let new = c.in_ok-pass.ensures.groups in
     record {
+      pooled = c.in_ok-pass.ensures.pooled;
       begins = record {
         over = c.requires;
         of_query = new.of_query;
-        most_is = new.most_is ∙ sym c.in_ok-pass.ensures.most;
-        fits = λ key. at_most_more (groups_in c.in_ok-pass.pass.groups) 0 (most_values - length c.args.stored.now * 1048576) (omega arith) (subst (λ (groups : Groups). HaveAtMost 0 groups) (sym new.groups_are) (none_fit (shape_of c.args.query.now))) key;
+        fits = λ key. at_most_more (groups_in (kept_by c.in_ok-pass.pass)) 0 (most_values - length c.args.stored.now * 1048576) (omega arith) (subst (λ (groups : Groups). HaveAtMost 0 groups) (sym new.groups_are) (none_fit (shape_of c.args.query.now))) key;
       };
       no_lines = c.in_ok-pass.ensures.lines;
     }
@@ -66,7 +67,7 @@ returns-in-Err g c =
       reply = tt;
       refused = λ fault e real.
           let (most, over) = c.in-Err.ensures.refused fault (ap Err (own_fault _ own (Sql fault) e)) real in
-          (groups_no_text fault _ most, subst (λ f. IfSome a.held (λ files. IsBoundReply table files stored query (Err f))) (sym (most ∙ ap TooManyGroups c.in_ok-pass.ensures.most)) (too_many_refused query table stored a.held c.in_ok-pass.pass.groups c.in_ok-pass.ensures.groups over));
+          (groups_no_text fault _ most, subst (λ f. IfSome a.held (λ files. IsBoundReply table files stored query (Err f))) (sym (most ∙ ap TooManyGroups c.in_ok-pass.ensures.most)) (too_many_refused query table stored a.held (kept_by c.in_ok-pass.pass) c.in_ok-pass.ensures.groups c.in_ok-pass.ensures.limits over));
       opens = tt;
       passes = pass_failed query table stored _ _ own a b c.in-Err.ensures.passes;
     }
@@ -113,9 +114,12 @@ returns g c =
     let text : List ℕ = c.in_ok-reply.reply in
     record {
       reply = bound_with query table stored c.args.wants_lines a.held text c.pass_over.new.pass.lines.items _
-          (all_answered query table stored a.held c.in_ok-pass.pass.groups c.pass_over.new.pass.groups text c.in_ok-pass.ensures.groups c.in-Ok.ensures.made.groups c.in_ok-reply.ensures) (λ wanted. c.in-Ok.ensures.made.lines (c.in_ok-pass.ensures.wants ∙ wanted))
+          (all_answered query table stored a.held (kept_by c.in_ok-pass.pass) (kept_by c.pass_over.new.pass) text c.in_ok-pass.ensures.groups c.in-Ok.ensures.made.groups c.in_ok-reply.ensures) (λ wanted. c.in-Ok.ensures.made.lines (c.in_ok-pass.ensures.wants ∙ wanted))
           (c.in_ok-with_lines.ensures ∙ ap (text_with c.args.wants_lines text) c.as_slice.ensures.value);
       refused = λ fault e real. absurd (no_fault _ _ (Sql fault) e);
       opens = c.in-Ok.ensures.made.openings;
       passes = pass_done query table stored _ _ tt _ a b c.in-Ok.ensures.passes;
     }
+
+pub new-pass-requires-clause-few : goal.new-pass-requires-clause-few
+new-pass-requires-clause-few g c = let few = c.requires.query.few_aggs in omega (arith, few)

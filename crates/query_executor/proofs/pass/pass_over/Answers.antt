@@ -9,7 +9,8 @@ use Rattle.segment_reads.specs.Logs.{IsFileOf}
 use borrow.Author.Count.{below_more, below_none}
 use Rattle.segment_opening.specs.Calls.{HasOpeningIn}
 use Rattle.query_executor.specs.Lines.{stats_line}
-use Rattle.query_executor.specs.Passes.{IsBadPart}
+use Rattle.query_executor.specs.Passes.{IsBadPart, kept_by}
+use Rattle.group_table.proofs.SlotFrames.{stays_same, stays_both}
 use Rattle.query_executor.specs.Steps.{AddsFirst, AddsLine, AddsStored, HasLines, IsStoredOverfull, fault_at}
 use Rattle.query_executor.proofs.PassLemmas.{count_most, named_at}
 use Rattle.query_executor.proofs.LineLemmas.{lines_more, no_lines}
@@ -31,10 +32,11 @@ use Rattle.segment_head.specs.Stored.{segment_at}
 
 pub stored-init : goal.stored-init
 stored-init g c = record {
+  stays = stays_same c.args.pass.now.groups c.args.pass.now.pool c.requires.pooled;
   of_query = c.requires.begins.of_query;
   most = refl;
-  fits = λ n at_most. at_most_more (groups_in c.args.pass.now.groups) n (n + 0 * 1048576) (omega arith) at_most;
-  so_far = none_first c.args.query.now c.args.table.now c.args.stored.now (g.S.Shelf.held c.args.shelf.now) c.args.pass.now.groups;
+  fits = λ n at_most. at_most_more (groups_in (kept_by c.args.pass.now)) n (n + 0 * 1048576) (omega arith) at_most;
+  so_far = none_first c.args.query.now c.args.table.now c.args.stored.now (g.S.Shelf.held c.args.shelf.now) (kept_by c.args.pass.now);
   wants = refl;
   lines = λ wanted. subst (HasLines (stats_line c.args.query.now c.args.table.now) c.args.table.now (g.S.Shelf.held c.args.shelf.now) c.args.stored.now 0) (sym c.requires.no_lines) (no_lines (stats_line c.args.query.now c.args.table.now) c.args.table.now c.args.stored.now (g.S.Shelf.held c.args.shelf.now));
   opens = below_none (λ k. HasOpeningIn c.args.table.now (g.S.Shelf.held c.args.shelf.now) (segment_at c.args.stored.now k));
@@ -56,9 +58,10 @@ pass_one-requires g c =
         name = subst (λ (s : Stored). IsSegmentName s.name) (sym is) (named_at c.args.table.now stored c.requires.begins.over.of_table c.stored.at lt);
         query = c.requires.begins.over.query;
       };
+      pooled = c.stored.invariant.stays.table;
       room = record {
         of_query = c.stored.invariant.of_query;
-        fits = at_most_more (groups_in c.stored.pass.groups) (most_values - length stored * 1048576 + c.stored.at * 1048576) (most_values - 1048576) (omega (arith, lt, count_most c.args.table.now stored c.requires.begins.over.of_table))
+        fits = at_most_more (groups_in (kept_by c.stored.pass)) (most_values - length stored * 1048576 + c.stored.at * 1048576) (most_values - 1048576) (omega (arith, lt, count_most c.args.table.now stored c.requires.begins.over.of_table))
             (c.stored.invariant.fits (most_values - length stored * 1048576) c.requires.begins.fits);
       };
     }
@@ -74,14 +77,15 @@ stored-preserved g c =
     let segment : Stored = c.index-stored-at.result in
     let lt : c.stored.at < length stored = omega arith in
     let is : segment ≡ segment_at stored c.stored.at = is_at stored c.stored.at segment lt c.index-stored-at.is in
-    let added : AddsStored query table a.held (segment_at stored c.stored.at) c.stored.pass.groups c.pass_one.new.pass.groups =
-    subst (λ segment. AddsStored query table a.held segment c.stored.pass.groups c.pass_one.new.pass.groups) is
-    (subst (λ held. AddsStored query table held segment c.stored.pass.groups c.pass_one.new.pass.groups) c.stored.invariant.reads.held c.in-Ok.ensures.adds.added) in
+    let added : AddsStored query table a.held (segment_at stored c.stored.at) (kept_by c.stored.pass) (kept_by c.pass_one.new.pass) =
+    subst (λ segment. AddsStored query table a.held segment (kept_by c.stored.pass) (kept_by c.pass_one.new.pass)) is
+    (subst (λ held. AddsStored query table held segment (kept_by c.stored.pass) (kept_by c.pass_one.new.pass)) c.stored.invariant.reads.held c.in-Ok.ensures.adds.added) in
     record {
+      stays = stays_both c.args.pass.now.groups c.stored.pass.groups c.pass_one.new.pass.groups c.args.pass.now.pool c.stored.pass.pool c.pass_one.new.pass.pool c.stored.invariant.stays c.in-Ok.ensures.stays;
       of_query = added.of_query;
       most = added.most ∙ c.stored.invariant.most;
-      fits = λ n at_most. at_most_more (groups_in c.pass_one.new.pass.groups) (n + c.stored.at * 1048576 + 1048576) (n + (c.stored.at + 1) * 1048576) (omega arith) (added.fits (n + c.stored.at * 1048576) (c.stored.invariant.fits n at_most));
-      so_far = one_more query table stored a.held c.stored.at c.args.pass.now.groups c.stored.pass.groups c.pass_one.new.pass.groups lt c.stored.invariant.so_far added;
+      fits = λ n at_most. at_most_more (groups_in (kept_by c.pass_one.new.pass)) (n + c.stored.at * 1048576 + 1048576) (n + (c.stored.at + 1) * 1048576) (omega arith) (added.fits (n + c.stored.at * 1048576) (c.stored.invariant.fits n at_most));
+      so_far = one_more query table stored a.held c.stored.at (kept_by c.args.pass.now) (kept_by c.stored.pass) (kept_by c.pass_one.new.pass) lt c.stored.invariant.so_far added;
       wants = c.in-Ok.ensures.wants ∙ c.stored.invariant.wants;
       lines = λ wanted. lines_more (stats_line query table) table stored a.held c.stored.at c.stored.pass.lines.items c.pass_one.new.pass.lines.items lt (c.stored.invariant.lines wanted)
           (subst (λ segment. AddsLine (stats_line query table) table a.held segment c.stored.pass.lines.items c.pass_one.new.pass.lines.items) is
@@ -110,10 +114,10 @@ returns-in-Err-clause-refused g c = λ fault is real.
     let named : segment ≡ segment_at stored c.stored.at = is_at stored c.stored.at segment lt c.index-stored-at.is in
     let (full, fault_is) = refused_so _ _ c.in-Err.fault fault (sym c.fault_at.ensures ∙ cc) real in
     let held = g.S.Shelf.held c.args.shelf.now in
-    let over : IsStoredOverfull query table held (segment_at stored c.stored.at) c.stored.pass.groups =
-    subst (λ segment. IsStoredOverfull query table held segment c.stored.pass.groups) named
-    (subst (λ held. IsStoredOverfull query table held segment c.stored.pass.groups) c.stored.invariant.reads.held (c.in-Err.ensures.adds.full (ap Err full))) in
-    (fault_is, too_many query table stored held c.stored.at c.args.pass.now.groups c.stored.pass.groups lt c.stored.invariant.most c.stored.invariant.so_far over)
+    let over : IsStoredOverfull query table held (segment_at stored c.stored.at) (kept_by c.stored.pass) =
+    subst (λ segment. IsStoredOverfull query table held segment (kept_by c.stored.pass)) named
+    (subst (λ held. IsStoredOverfull query table held segment (kept_by c.stored.pass)) c.stored.invariant.reads.held (c.in-Err.ensures.adds.full (ap Err full))) in
+    (fault_is, too_many query table stored held c.stored.at (kept_by c.args.pass.now) (kept_by c.stored.pass) lt c.stored.invariant.most c.stored.invariant.so_far over)
 
 pub returns-in-Err-clause-passes : goal.returns-in-Err-clause-passes
 returns-in-Err-clause-passes g c = record {
@@ -177,8 +181,8 @@ returns-clause-made g c =
     record {
       of_query = c.stored.invariant.of_query;
       most = c.stored.invariant.most;
-      fits = λ n at_most. at_most_more (groups_in c.stored.pass.groups) (n + c.stored.at * 1048576) (n + length stored * 1048576) (omega (arith, done)) (c.stored.invariant.fits n at_most);
-      groups = subst (λ k. AddsFirst query table held stored k c.args.pass.now.groups c.stored.pass.groups) done c.stored.invariant.so_far;
+      fits = λ n at_most. at_most_more (groups_in (kept_by c.stored.pass)) (n + c.stored.at * 1048576) (n + length stored * 1048576) (omega (arith, done)) (c.stored.invariant.fits n at_most);
+      groups = subst (λ k. AddsFirst query table held stored k (kept_by c.args.pass.now) (kept_by c.stored.pass)) done c.stored.invariant.so_far;
       lines = λ wanted. subst (λ k. HasLines (stats_line query table) table held stored k c.stored.pass.lines.items) done (c.stored.invariant.lines wanted);
       openings = λ at lt. c.stored.invariant.opens at (omega (arith, done, lt));
     }
@@ -194,3 +198,9 @@ returns-clause-passes g c = record {
       subst (λ k. LogsEach (ReadsPlanned c.args.query.now c.args.table.now true) c.args.table.now (g.S.Shelf.held c.args.shelf.now) stored k (g.S.Shelf.log c.args.shelf.now) (g.S.Shelf.log c.stored.shelf)) done c.stored.invariant.each;
   reads_of_fault = tt;
 }
+
+pub returns-in-Err-clause-stays : goal.returns-in-Err-clause-stays
+returns-in-Err-clause-stays g c = stays_both c.args.pass.now.groups c.stored.pass.groups c.pass_one.new.pass.groups c.args.pass.now.pool c.stored.pass.pool c.pass_one.new.pass.pool c.stored.invariant.stays c.in-Err.ensures.stays
+
+pub returns-clause-stays : goal.returns-clause-stays
+returns-clause-stays g c = c.stored.invariant.stays

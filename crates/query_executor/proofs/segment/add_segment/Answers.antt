@@ -22,6 +22,8 @@ use Rattle.segment_scan.proofs.SegmentLemmas.{ok_so}
 use Rattle.segment_reads.specs.Reads.{LogsOne, ReadsPlanned}
 use Rattle.query_executor.proofs.OneReads.{err_so, given_up, headed_one, heads_then, loaded_one, opened_one, quiet_one}
 use Rattle.query_executor.proofs.segment.add_segment.Goals as goal
+use Rattle.group_table.specs.Pooled.{in_pool}
+use Rattle.group_table.proofs.SlotFrames.{stays_same}
 use Rattle.segment_head.specs.declared.stored.Stored.{Stored}
 
 -- what holds, holds of a call that ended well
@@ -37,6 +39,7 @@ load_unless_emptied-requires g c = record { valid = c.requires.of_table.valid; q
 
 pub add_planned-requires : goal.add_planned-requires
 add_planned-requires g c = record {
+  pooled = c.requires.pooled;
   room = c.requires.room;
   loaded = record {
     asked = record { valid = c.requires.of_table.valid; query = c.requires.of_table.query; of_table = c.in-Ok-load_unless_emptied.ensures.loads.grows.of_table };
@@ -53,6 +56,7 @@ returns-in-Err g c =
     let table = c.args.table.now in
     let segment = c.args.segment.now in
     record {
+      stays = stays_same c.args.groups.now c.args.pool.now c.requires.pooled;
       adds = record {
         added = tt;
         opens = tt;
@@ -79,8 +83,9 @@ returns-then-prune g c =
     let done = done_so query table c.head_tells_law.ensures c.plan_over_law.ensures c.requires.of_table.valid c.requires.of_table.query a.held segment head c.nothing.result.plan c.nothing.result.docs
     (c.nothing.ensures.plan ∙ pruned_planned query table head is) (inl is) (none_looked query table a.held head c.nothing.result.plan Pruned c.nothing.result.docs c.nothing.ensures.plan (λ rows. refl) c.nothing.ensures.none) c.in-Ok.ensures.opened.image in
     record {
+      stays = stays_same c.args.groups.now c.args.pool.now c.requires.pooled;
       adds = record {
-        added = adds_none query table segment head c.head_tells_law.ensures c.requires.of_table.valid a.held c.args.groups.now c.requires.room.of_query (λ rows tells. c.pruned_law.ensures query table rows head tells is) c.in-Ok.ensures.opened.image;
+        added = adds_none query table segment head c.head_tells_law.ensures c.requires.of_table.valid a.held (in_pool c.args.groups.now c.args.pool.now) c.requires.room.of_query (λ rows tells. c.pruned_law.ensures query table rows head tells is) c.in-Ok.ensures.opened.image;
         opens = c.in-Ok.ensures.opened.opening;
         full = λ fault. absurd (no_fault _ _ engine.TooManyGroups fault);
         filled = λ fault. absurd (no_fault _ _ engine.TooManyGroups fault);
@@ -112,8 +117,9 @@ returns-then-not-loaded g c =
     let done = empty_done query table segment head c.requires.of_table.valid c.head_tells_law.ensures c.plan_over_law.ensures c.requires.of_table.query a.held c.nothing-then-not-loaded.result.plan c.nothing-then-not-loaded.result.docs
     c.nothing-then-not-loaded.ensures.plan c.nothing-then-not-loaded.ensures.none (sym c.prune.ensures ∙ c.if-prune.false) none c.in-Ok.ensures.opened.image in
     record {
+      stays = stays_same c.args.groups.now c.args.pool.now c.requires.pooled;
       adds = record {
-        added = adds_empty query table segment head c.requires.of_table.valid c.head_tells_law.ensures c.empty_law.ensures a.held c.args.groups.now c.requires.room.of_query none c.in-Ok.ensures.opened.image;
+        added = adds_empty query table segment head c.requires.of_table.valid c.head_tells_law.ensures c.empty_law.ensures a.held (in_pool c.args.groups.now c.args.pool.now) c.requires.room.of_query none c.in-Ok.ensures.opened.image;
         opens = c.in-Ok.ensures.opened.opening;
         full = λ fault. absurd (no_fault _ _ engine.TooManyGroups fault);
         filled = λ fault. absurd (no_fault _ _ engine.TooManyGroups fault);
@@ -140,6 +146,7 @@ returns-in-Err-load_unless_emptied g c =
     let opened = head_in table segment a.held a.log b.log c.in-Ok.ensures.looks.log in
     let loaded = loaded_in table segment head b.log d.log c.in-Ok.ensures.opened.of c.in-Ok.ensures.opened.placed c.in-Err-load_unless_emptied.ensures.loads.log in
     record {
+      stays = stays_same c.args.groups.now c.args.pool.now c.requires.pooled;
       adds = record {
         added = tt;
         opens = tt;
@@ -182,10 +189,11 @@ returns g c =
     (opened_one query table segment c.requires.of_table.valid c.requires.of_table.name a.held a.log b.log c.in-Ok.ensures.looks.log) (loaded_one query table segment a.held head b.log d.log c.in-Ok.ensures.opened.placed c.in-Ok.ensures.opened.spread c.in-Ok-load_unless_emptied.ensures.loads.log) in
     let adds = c.add_planned.ensures.adds segment later in
     record {
+      stays = c.add_planned.ensures.stays;
       adds = record {
-        added = subst (λ h. OnOk c.add_planned.result (AddsStored query table h segment c.args.groups.now c.add_planned.new.groups)) same adds.added;
+        added = subst (λ h. OnOk c.add_planned.result (AddsStored query table h segment (in_pool c.args.groups.now c.args.pool.now) (in_pool c.add_planned.new.groups c.add_planned.new.pool))) same adds.added;
         opens = on_ok c.add_planned.result c.in-Ok.ensures.opened.opening;
-        full = λ is. subst (λ h. IsStoredOverfull query table h segment c.args.groups.now) same (adds.full is);
+        full = λ is. subst (λ h. IsStoredOverfull query table h segment (in_pool c.args.groups.now c.args.pool.now)) same (adds.full is);
         filled = adds.filled;
         bad = λ part is. subst (λ h. IsBadPart query table h segment part) same (adds.bad part is);
         only_reads = reads_then a d e

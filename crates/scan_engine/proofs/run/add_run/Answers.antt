@@ -8,6 +8,7 @@ use Rattle.agg_laws.specs.Rows.{kinds_of}
 use Rattle.scan_engine.specs.Places.{rows_at}
 use Rattle.scan_engine.proofs.AddLemmas.{merged_within}
 use Rattle.scan_engine.proofs.RunLemmas.{adds_run, kinds_states, no_room_for_run, states_have}
+use Rattle.group_table.specs.Pooled.{in_pool}
 use Rattle.scan_engine.proofs.run.add_run.Goals as goal
 
 pub merge_row-requires-clause-kinds : goal.merge_row-requires-clause-kinds
@@ -21,15 +22,15 @@ merge_row-requires-clause-values c = λ lt.
     subst (λ (s : List AggState). HaveValues s) (sym c.in_ok-states.ensures.states) (states_have c.as_slice.result.now run (c.requires.run.some (subst (λ n. 0 < n) c.requires.room.of_query.columns lt)))
 
 pub merge_row-requires-clause-fits : goal.merge_row-requires-clause-fits
-merge_row-requires-clause-fits c = merged_within (groups_in c.args.table.now) c.args.key.now c.in_ok-states.states (length c.args.places.now) c.requires.room.at_most c.requires.room.fits c.in_ok-states.ensures.fits
+merge_row-requires-clause-fits c = merged_within (groups_in (in_pool c.args.table.now c.args.pool.now)) c.args.key.now c.in_ok-states.states (length c.args.places.now) c.requires.room.at_most c.requires.room.fits c.in_ok-states.ensures.fits
 
-pub returns : goal.returns
-returns c =
+pub returns-clause-adds : goal.returns-clause-adds
+returns-clause-adds c =
     let run = rows_at c.args.block.columns.now.columns c.args.places.now in
     record {
-      added = IfOk-weaker c.merge_row.result _ _ (λ u m. adds_run c.args.query.now (length c.args.places.now) run c.args.key.now c.in_ok-states.states c.args.table.now c.merge_row.new.self
+      added = IfOk-weaker c.merge_row.result _ _ (λ u m. adds_run c.args.query.now (length c.args.places.now) run c.args.key.now c.in_ok-states.states (in_pool c.args.table.now c.args.pool.now) (in_pool c.merge_row.new.self c.merge_row.new.pool)
           c.requires.room.of_query c.requires.run (c.in_ok-states.ensures.states ∙ ap (λ (aggs : List Agg). states_of aggs run) c.as_slice.ensures) c.in_ok-states.ensures.fits m) c.merge_row.ensures.ok;
       full = λ bad.
           let full = c.merge_row.ensures.full.0 bad in
-          no_room_for_run c.args.query.now run c.args.key.now c.args.table.now c.requires.run full.0 full.1;
+          no_room_for_run c.args.query.now run c.args.key.now (in_pool c.args.table.now c.args.pool.now) c.requires.run full.0 full.1;
     }

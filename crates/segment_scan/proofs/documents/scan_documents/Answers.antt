@@ -19,6 +19,7 @@ use Rattle.segment_plan.specs.Served.{rest_of}
 use Rattle.outside.proofs.SeenLemmas.{err_is}
 use Rattle.segment_scan.proofs.PickLemmas.{docs-coded, docs-overfull, docs-read, docs_few, picked-of}
 use Rattle.outside.proofs.SeriesLemmas.{series_all}
+use Rattle.group_table.specs.Pooled.{in_pool}
 use Rattle.segment_scan.proofs.documents.scan_documents.Goals as goal
 
 pub pick_columns-requires : goal.pick_columns-requires
@@ -59,7 +60,7 @@ invariant_of-segment g c =
 
 pub add_coded-requires-clause-fits : goal.add_coded-requires-clause-fits
 add_coded-requires-clause-fits g c =
-    at_most_more (groups_in c.args.groups.now) (most_values - length c.args.docs.now) (most_values - c.len-2.result) (omega (arith, c.len-2.ensures)) c.requires.room.fits
+    at_most_more (groups_in (in_pool c.args.groups.now c.args.pool.now)) (most_values - length c.args.docs.now) (most_values - c.len-2.result) (omega (arith, c.len-2.ensures)) c.requires.room.fits
 
 pub returns-in-Ok-add_coded-clause-count : goal.returns-in-Ok-add_coded-clause-count
 returns-in-Ok-add_coded-clause-count g c = docs_few c.args.docs.now c.args.answered.now.head.now.rows c.runs-runs.ensures.ascends c.requires.within
@@ -86,7 +87,7 @@ returns-in-Ok-add_coded-clause-ok g c =
     let rows = selected (rest_of query choices) (rows_of (table_of segment)) in
     record {
       rows = rows;
-      adds = adds_as_more query c.len-2.result (length docs) rows c.args.groups.now c.add_coded.new.table (omega (arith, c.len-2.ensures)) c.in-Ok-add_coded.ensures.ok;
+      adds = adds_as_more query c.len-2.result (length docs) rows (in_pool c.args.groups.now c.args.pool.now) (in_pool c.add_coded.new.table c.add_coded.new.pool) (omega (arith, c.len-2.ensures)) c.in-Ok-add_coded.ensures.adds.ok;
       told = docs-read held head named docs ids segment c.len-2.ensures (omega (arith, at_most, c.requires.few_rows)) c.requires.within lengths picked of query choices;
     }
 
@@ -109,9 +110,9 @@ returns-in-Err-TooManyGroups-clause-full g c = λ bad.
     subst (λ (l : List ℕ). IsPicked held head column l (get_or named column false) (get_or ids column None)) c.runs-runs.ensures.docs (c.in-Ok.ensures.ids column lt) in
     let at_most : length docs ≤ head.rows = docs_few docs head.rows c.runs-runs.ensures.ascends c.requires.within in
     let segment : SegmentColumns = record { columns = c.as_slice.result; count = c.len-2.result; coded = docs-coded held head named docs ids c.len-2.result c.as_slice.result.now c.len-2.ensures (omega (arith, at_most, c.requires.few_rows)) lengths picked of } in
-    docs-overfull held query choices head named docs (selected (rest_of query choices) (rows_of (table_of segment))) c.args.groups.now
+    docs-overfull held query choices head named docs (selected (rest_of query choices) (rows_of (table_of segment))) (in_pool c.args.groups.now c.args.pool.now)
     (docs-read held head named docs ids segment c.len-2.ensures (omega (arith, at_most, c.requires.few_rows)) c.requires.within lengths picked of query choices)
-    (c.add_coded.ensures.full (c.in-Err-TooManyGroups.is ∙ ap Err c.in-Err-TooManyGroups.field-0-is))
+    (c.add_coded.ensures.adds.full (c.in-Err-TooManyGroups.is ∙ ap Err c.in-Err-TooManyGroups.field-0-is))
 
 pub returns-in-Err-clause-reads : goal.returns-in-Err-clause-reads
 returns-in-Err-clause-reads g c = record {

@@ -15,6 +15,8 @@ use Rattle.segment_head.specs.declared.fault.EngineFault.{EngineFault}
 use Rattle.segment_head.specs.declared.fault.EngineFault.TheVariants.{NotASegment, TooManyGroups}
 use Rattle.segment_scan.proofs.LeftImage.{PartsFit, check_full, left_docs, left_image, no_parts, parts_fit, sure_full, sure_names}
 use Rattle.outside.proofs.SeenLemmas.{err_is}
+use Rattle.group_table.specs.Pooled.{in_pool}
+use Rattle.group_table.proofs.SlotFrames.{stays_both}
 use Rattle.segment_scan.proofs.left.scan_left.Goals as goal
 
 -- a fault is the same beside answers of another type
@@ -94,7 +96,7 @@ scan_part-requires-clause-scans g c = record {
       let sure : List ℕ = c.in_ok-sure.sure in
       let parts : AreParts docs unsure check sure = record { checks = c.in_ok-check.ensures; sures = c.in_ok-sure.ensures } in
       let f : PartsFit head.rows docs check sure = parts_fit docs unsure check sure head.rows c.requires.leaves.ascend c.requires.leaves.left.within parts in
-      at_most_more (groups_in c.args.groups.now) (most_values - head.rows) (most_values - length check) (omega (arith, f.count, f.at_most)) c.requires.scans.fits;
+      at_most_more (groups_in (in_pool c.args.groups.now c.args.pool.now)) (most_values - head.rows) (most_values - length check) (omega (arith, f.count, f.at_most)) c.requires.scans.fits;
 }
 
 pub scan_part-requires-2-clause-within : goal.scan_part-requires-2-clause-within
@@ -128,7 +130,7 @@ scan_part-requires-2-clause-scans g c = record {
       let sure : List ℕ = c.in_ok-sure.sure in
       let parts : AreParts docs unsure check sure = record { checks = c.in_ok-check.ensures; sures = c.in_ok-sure.ensures } in
       let f : PartsFit head.rows docs check sure = parts_fit docs unsure check sure head.rows c.requires.leaves.ascend c.requires.leaves.left.within parts in
-      at_most_more (groups_in c.scan_part.new.groups) (most_values - head.rows + length check) (most_values - length sure) (omega (arith, f.count, f.at_most, c.requires.scans.of_table.at_most, c.requires.scans.of_table.has.rows_are))
+      at_most_more (groups_in (in_pool c.scan_part.new.groups c.scan_part.new.pool)) (most_values - head.rows + length check) (most_values - length sure) (omega (arith, f.count, f.at_most, c.requires.scans.of_table.at_most, c.requires.scans.of_table.has.rows_are))
       (c.in-Ok.ensures.ok.adds.fits (most_values - head.rows) c.requires.scans.fits);
 }
 
@@ -144,8 +146,8 @@ returns-in-Err-clause-full g c = λ full.
     let sure : List ℕ = c.in_ok-sure.sure in
     let parts : AreParts docs unsure check sure = record { checks = c.in_ok-check.ensures; sures = c.in_ok-sure.ensures } in
     let f : PartsFit head.rows docs check sure = parts_fit docs unsure check sure head.rows c.requires.leaves.ascend c.requires.leaves.left.within parts in
-    check_full c.image_law.ensures c.index_law.ensures query table head c.requires.scans.valid c.requires.scans.of_table c.requires.scans.loaded docs held unsure check sure c.requires.leaves.left c.requires.leaves.unsure parts c.args.groups.now
-    (subst (λ cs. IfSome held (λ files. IsOverfull query (selected_docs query cs files head (names_in (rest_of query cs) table) check) c.args.groups.now)) c.requires.planned
+    check_full c.image_law.ensures c.index_law.ensures query table head c.requires.scans.valid c.requires.scans.of_table c.requires.scans.loaded docs held unsure check sure c.requires.leaves.left c.requires.leaves.unsure parts (in_pool c.args.groups.now c.args.pool.now)
+    (subst (λ cs. IfSome held (λ files. IsOverfull query (selected_docs query cs files head (names_in (rest_of query cs) table) check) (in_pool c.args.groups.now c.args.pool.now))) c.requires.planned
     (c.in-Err.ensures.full (same_err ℕ (Unit {0}) c.in-Err.fault TooManyGroups full)))
 
 pub returns-in-Err-clause-reads : goal.returns-in-Err-clause-reads
@@ -215,11 +217,11 @@ returns-in-Ok-scan_part-clause-ok g c =
     let f : PartsFit head.rows docs check sure = parts_fit docs unsure check sure head.rows c.requires.leaves.ascend c.requires.leaves.left.within parts in
     let served : c.as_slice-served.result.now ≡ sure_choices (choices_for query table head) = c.as_slice-served.ensures.value ∙ c.in_ok-served.ensures ∙ ap sure_choices c.requires.planned in
     let same : g.S.Shelf.held c.scan_part.new.shelf ≡ held = c.in-Ok.ensures.reads.only_reads.held in
-    let first : AddsDocs query (choices_for query table head) held head (names_in (rest_for query table head) table) check c.args.groups.now c.scan_part.new.groups =
-    subst (λ cs. AddsDocs query cs held head (names_in (rest_of query cs) table) check c.args.groups.now c.scan_part.new.groups) c.requires.planned c.in-Ok.ensures.ok in
-    left_image c.image_law.ensures c.index_law.ensures query table head c.requires.scans.valid c.requires.scans.of_table c.requires.scans.loaded docs held unsure check sure c.requires.leaves.left c.requires.leaves.unsure parts f.at_most f.count c.args.groups.now c.scan_part.new.groups c.scan_part-2.new.groups first
-    (subst (λ cs. AddsDocs query cs held head (names_in (rest_of query cs) table) sure c.scan_part.new.groups c.scan_part-2.new.groups) served
-    (subst (λ h. AddsDocs query c.as_slice-served.result.now h head (names_in (rest_of query c.as_slice-served.result.now) table) sure c.scan_part.new.groups c.scan_part-2.new.groups) same c.in-Ok-scan_part.ensures.ok))
+    let first : AddsDocs query (choices_for query table head) held head (names_in (rest_for query table head) table) check (in_pool c.args.groups.now c.args.pool.now) (in_pool c.scan_part.new.groups c.scan_part.new.pool) =
+    subst (λ cs. AddsDocs query cs held head (names_in (rest_of query cs) table) check (in_pool c.args.groups.now c.args.pool.now) (in_pool c.scan_part.new.groups c.scan_part.new.pool)) c.requires.planned c.in-Ok.ensures.ok in
+    left_image c.image_law.ensures c.index_law.ensures query table head c.requires.scans.valid c.requires.scans.of_table c.requires.scans.loaded docs held unsure check sure c.requires.leaves.left c.requires.leaves.unsure parts f.at_most f.count (in_pool c.args.groups.now c.args.pool.now) (in_pool c.scan_part.new.groups c.scan_part.new.pool) (in_pool c.scan_part-2.new.groups c.scan_part-2.new.pool) first
+    (subst (λ cs. AddsDocs query cs held head (names_in (rest_of query cs) table) sure (in_pool c.scan_part.new.groups c.scan_part.new.pool) (in_pool c.scan_part-2.new.groups c.scan_part-2.new.pool)) served
+    (subst (λ h. AddsDocs query c.as_slice-served.result.now h head (names_in (rest_of query c.as_slice-served.result.now) table) sure (in_pool c.scan_part.new.groups c.scan_part.new.pool) (in_pool c.scan_part-2.new.groups c.scan_part-2.new.pool)) same c.in-Ok-scan_part.ensures.ok))
 
 pub returns-in-Ok-scan_part-clause-reads : goal.returns-in-Ok-scan_part-clause-reads
 returns-in-Ok-scan_part-clause-reads g c = record {
@@ -263,11 +265,11 @@ returns-clause-full g c = λ full.
     let f : PartsFit head.rows docs check sure = parts_fit docs unsure check sure head.rows c.requires.leaves.ascend c.requires.leaves.left.within parts in
     let served : c.as_slice-served.result.now ≡ sure_choices (choices_for query table head) = c.as_slice-served.ensures.value ∙ c.in_ok-served.ensures ∙ ap sure_choices c.requires.planned in
     let same : g.S.Shelf.held c.scan_part.new.shelf ≡ held = c.in-Ok.ensures.reads.only_reads.held in
-    let first : AddsDocs query (choices_for query table head) held head (names_in (rest_for query table head) table) check c.args.groups.now c.scan_part.new.groups =
-    subst (λ cs. AddsDocs query cs held head (names_in (rest_of query cs) table) check c.args.groups.now c.scan_part.new.groups) c.requires.planned c.in-Ok.ensures.ok in
-    sure_full c.image_law.ensures c.index_law.ensures query table head c.requires.scans.valid c.requires.scans.of_table c.requires.scans.loaded docs held unsure check sure c.requires.leaves.left c.requires.leaves.unsure parts c.args.groups.now c.scan_part.new.groups first
-    (subst (λ cs. IfSome held (λ files. IsOverfull query (selected_docs query cs files head (names_in (rest_of query cs) table) sure) c.scan_part.new.groups)) served
-    (subst (λ h. IfSome h (λ files. IsOverfull query (selected_docs query c.as_slice-served.result.now files head (names_in (rest_of query c.as_slice-served.result.now) table) sure) c.scan_part.new.groups)) same
+    let first : AddsDocs query (choices_for query table head) held head (names_in (rest_for query table head) table) check (in_pool c.args.groups.now c.args.pool.now) (in_pool c.scan_part.new.groups c.scan_part.new.pool) =
+    subst (λ cs. AddsDocs query cs held head (names_in (rest_of query cs) table) check (in_pool c.args.groups.now c.args.pool.now) (in_pool c.scan_part.new.groups c.scan_part.new.pool)) c.requires.planned c.in-Ok.ensures.ok in
+    sure_full c.image_law.ensures c.index_law.ensures query table head c.requires.scans.valid c.requires.scans.of_table c.requires.scans.loaded docs held unsure check sure c.requires.leaves.left c.requires.leaves.unsure parts (in_pool c.args.groups.now c.args.pool.now) (in_pool c.scan_part.new.groups c.scan_part.new.pool) first
+    (subst (λ cs. IfSome held (λ files. IsOverfull query (selected_docs query cs files head (names_in (rest_of query cs) table) sure) (in_pool c.scan_part.new.groups c.scan_part.new.pool))) served
+    (subst (λ h. IfSome h (λ files. IsOverfull query (selected_docs query c.as_slice-served.result.now files head (names_in (rest_of query c.as_slice-served.result.now) table) sure) (in_pool c.scan_part.new.groups c.scan_part.new.pool))) same
     (c.in-Err-scan_part.ensures.full (same_err ℕ (Unit {0}) c.in-Err-scan_part.fault TooManyGroups full))))
 
 pub returns-clause-bad : goal.returns-clause-bad
@@ -321,3 +323,11 @@ returns-clause-reads g c = record {
         );
       };
 }
+
+pub returns-in-Ok-scan_part-clause-stays : goal.returns-in-Ok-scan_part-clause-stays
+returns-in-Ok-scan_part-clause-stays g c = stays_both c.args.groups.now c.scan_part.new.groups c.scan_part-2.new.groups c.args.pool.now c.scan_part.new.pool c.scan_part-2.new.pool
+    c.scan_part.ensures.stays c.scan_part-2.ensures.stays
+
+pub returns-clause-stays : goal.returns-clause-stays
+returns-clause-stays g c = stays_both c.args.groups.now c.scan_part.new.groups c.scan_part-2.new.groups c.args.pool.now c.scan_part.new.pool c.scan_part-2.new.pool
+    c.scan_part.ensures.stays c.scan_part-2.ensures.stays

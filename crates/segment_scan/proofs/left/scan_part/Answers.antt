@@ -9,6 +9,7 @@ use Rattle.segment_scan.proofs.ImageLemmas.{loaded_readable}
 use Rattle.segment_scan.proofs.LeftImage.{bad_left, marks_left, rest_loaded}
 use Rattle.outside.proofs.SeenLemmas.{err_is}
 use Rattle.segment_scan.proofs.SegmentLemmas.{mark_named, marks_few}
+use Rattle.group_table.specs.Pooled.{in_pool}
 use Rattle.segment_scan.proofs.left.scan_part.Goals as goal
 
 pub returns-in_err-named-clause-reads : goal.returns-in_err-named-clause-reads
@@ -52,7 +53,7 @@ returns-clause-ok g c =
     let named : List Bool = c.as_slice-named.result.now in
     let is : named ≡ names_in (rest_of query choices) table =
     marks_left query table choices named c.in_ok-named.named.items c.len.result c.len.ensures c.as_slice-named.ensures.value c.in_ok-named.ensures.count c.in_ok-named.ensures.each in
-    subst (λ (l : List Bool). OnOk c.scan_documents.result (AddsDocs query choices (g.S.Shelf.held c.args.shelf.now) head l c.args.docs.now c.args.groups.now c.scan_documents.new.groups)) is c.scan_documents.ensures.ok
+    subst (λ (l : List Bool). OnOk c.scan_documents.result (AddsDocs query choices (g.S.Shelf.held c.args.shelf.now) head l c.args.docs.now (in_pool c.args.groups.now c.args.pool.now) (in_pool c.scan_documents.new.groups c.scan_documents.new.pool))) is c.scan_documents.ensures.ok
 
 pub returns-clause-full : goal.returns-clause-full
 returns-clause-full g c = λ full.
@@ -63,7 +64,7 @@ returns-clause-full g c = λ full.
     let named : List Bool = c.as_slice-named.result.now in
     let is : named ≡ names_in (rest_of query choices) table =
     marks_left query table choices named c.in_ok-named.named.items c.len.result c.len.ensures c.as_slice-named.ensures.value c.in_ok-named.ensures.count c.in_ok-named.ensures.each in
-    subst (λ (l : List Bool). IfSome (g.S.Shelf.held c.args.shelf.now) (λ files. IsOverfull query (selected_docs query choices files head l c.args.docs.now) c.args.groups.now)) is (c.scan_documents.ensures.full full)
+    subst (λ (l : List Bool). IfSome (g.S.Shelf.held c.args.shelf.now) (λ files. IsOverfull query (selected_docs query choices files head l c.args.docs.now) (in_pool c.args.groups.now c.args.pool.now))) is (c.scan_documents.ensures.full full)
 
 pub returns-clause-bad : goal.returns-clause-bad
 returns-clause-bad g c = λ part bad.

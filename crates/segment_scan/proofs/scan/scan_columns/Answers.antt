@@ -12,6 +12,7 @@ use Rattle.segment_scan.specs.Scans.{IsCodedOf}
 use Rattle.segment_scan.proofs.ScanLemmas.{coded-all, named-of, overfull-read, rows-read}
 use Rattle.outside.proofs.SeenLemmas.{err_is}
 use Rattle.column_reader.proofs.LogLemmas.{logs_all}
+use Rattle.group_table.specs.Pooled.{in_pool}
 use Rattle.segment_scan.proofs.scan.scan_columns.Goals as goal
 
 pub coded_columns-requires-clause-loaded : goal.coded_columns-requires-clause-loaded
@@ -35,7 +36,7 @@ invariant_of-segment g c =
     record { coded = coded-all held head named ids c.rows.result c.as_slice.result.now c.rows.ensures c.requires.few_rows lengths c.in-Ok.ensures.ids of }
 
 pub add_coded-requires-clause-fits : goal.add_coded-requires-clause-fits
-add_coded-requires-clause-fits g c = subst (λ n. HaveAtMost (most_values - n) (groups_in c.args.groups.now)) (sym c.rows.ensures) c.requires.room.fits
+add_coded-requires-clause-fits g c = subst (λ n. HaveAtMost (most_values - n) (groups_in (in_pool c.args.groups.now c.args.pool.now))) (sym c.rows.ensures) c.requires.room.fits
 
 pub returns-in-Ok-add_coded-clause-ok : goal.returns-in-Ok-add_coded-clause-ok
 returns-in-Ok-add_coded-clause-ok g c =
@@ -52,7 +53,7 @@ returns-in-Ok-add_coded-clause-ok g c =
     let segment : SegmentColumns = record { columns = c.as_slice.result; count = c.rows.result; coded = coded-all held head named ids c.rows.result c.as_slice.result.now c.rows.ensures c.requires.few_rows lengths c.in-Ok.ensures.ids of } in
     record {
       rows = selected c.args.query.now (rows_of (table_of segment));
-      adds = subst (λ n. AddsRows c.args.query.now n (selected c.args.query.now (rows_of (table_of segment))) c.args.groups.now c.add_coded.new.table) c.rows.ensures c.in-Ok-add_coded.ensures.ok;
+      adds = subst (λ n. AddsRows c.args.query.now n (selected c.args.query.now (rows_of (table_of segment))) (in_pool c.args.groups.now c.args.pool.now) (in_pool c.add_coded.new.table c.add_coded.new.pool)) c.rows.ensures c.in-Ok-add_coded.ensures.adds.ok;
       told = rows-read held head named ids segment c.rows.ensures c.requires.few_rows lengths c.in-Ok.ensures.ids of c.args.query.now;
     }
 
@@ -69,9 +70,9 @@ returns-in-Err-TooManyGroups-clause-full g c = λ bad.
     (subst (λ (l : List (Option Coded)). IsCodedOf head column (get_or c.as_slice-ids.result.now column None) (get_or l column None)) (sym c.as_slice.ensures.value)
     (c.in_ok-columns.ensures.each column (within column lt))) in
     let segment : SegmentColumns = record { columns = c.as_slice.result; count = c.rows.result; coded = coded-all held head named ids c.rows.result c.as_slice.result.now c.rows.ensures c.requires.few_rows lengths c.in-Ok.ensures.ids of } in
-    overfull-read held c.args.query.now head named (selected c.args.query.now (rows_of (table_of segment))) c.args.groups.now
+    overfull-read held c.args.query.now head named (selected c.args.query.now (rows_of (table_of segment))) (in_pool c.args.groups.now c.args.pool.now)
     (rows-read held head named ids segment c.rows.ensures c.requires.few_rows lengths c.in-Ok.ensures.ids of c.args.query.now)
-    (c.add_coded.ensures.full (c.in-Err-TooManyGroups.is ∙ ap Err c.in-Err-TooManyGroups.field-0-is))
+    (c.add_coded.ensures.adds.full (c.in-Err-TooManyGroups.is ∙ ap Err c.in-Err-TooManyGroups.field-0-is))
 
 pub returns-in_err-columns-clause-reads : goal.returns-in_err-columns-clause-reads
 returns-in_err-columns-clause-reads g c = record {

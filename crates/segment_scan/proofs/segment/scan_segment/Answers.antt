@@ -19,6 +19,7 @@ use Rattle.segment_scan.proofs.IndexImage.{ready_for}
 use Rattle.segment_scan.proofs.LeftImage.{bad_index, nothing_logged, whole_bad, whole_docs, whole_full, whole_image}
 use Rattle.column_reader.proofs.LogLemmas.{err_so}
 use Rattle.segment_scan.proofs.SegmentLemmas.{ok_so}
+use Rattle.group_table.specs.Pooled.{in_pool}
 use Rattle.segment_scan.proofs.segment.scan_segment.Goals as goal
 
 same_err : (T U : Type 0) (fault cause : EngineFault) → IsErrOf {T = T} {E = EngineFault} (Err fault) cause → IsErrOf {T = U} {E = EngineFault} (Err fault) cause
@@ -104,8 +105,8 @@ returns-in-None-clause-ok g c =
     let none : indexed_for query table head ≡ [] =
     none_left held head c.as_slice-choices.result.now (choices_for query table head) c.as_slice-conjuncts.result.now query.conjuncts c.in-Ok.docs choices conjuncts c.in-None.is c.in-Ok.ensures.docs in
     let same : g.S.Shelf.held c.documents.new.shelf ≡ held = c.in-Ok.ensures.reads.only_reads.held in
-    let old = c.args.groups.now in
-    let new = c.scan_whole.new.groups in
+    let old = (in_pool c.args.groups.now c.args.pool.now) in
+    let new = (in_pool c.scan_whole.new.groups c.scan_whole.new.pool) in
     ok_so c.scan_whole.result (AddsWhole query table (g.S.Shelf.held c.documents.new.shelf) head old new) (AddsImage query table held head old new)
     (λ by. whole_image query table held head old new none (subst (λ h. AddsWhole query table h head old new) same by)) c.scan_whole.ensures.ok
 
@@ -120,7 +121,7 @@ returns-in-None-clause-full g c = λ full.
     let none : indexed_for query table head ≡ [] =
     none_left held head c.as_slice-choices.result.now (choices_for query table head) c.as_slice-conjuncts.result.now query.conjuncts c.in-Ok.docs choices conjuncts c.in-None.is c.in-Ok.ensures.docs in
     let same : g.S.Shelf.held c.documents.new.shelf ≡ held = c.in-Ok.ensures.reads.only_reads.held in
-    whole_full query table held head c.args.groups.now none (subst (λ h. IsWholeOverfull query table h head c.args.groups.now) same (c.scan_whole.ensures.full full))
+    whole_full query table held head (in_pool c.args.groups.now c.args.pool.now) none (subst (λ h. IsWholeOverfull query table h head (in_pool c.args.groups.now c.args.pool.now)) same (c.scan_whole.ensures.full full))
 
 pub returns-in-None-clause-bad : goal.returns-in-None-clause-bad
 returns-in-None-clause-bad g c = λ part bad.

@@ -8,10 +8,11 @@ use Rattle.segment_scan.proofs.ImageLemmas.{loaded_readable}
 use Rattle.outside.proofs.SeenLemmas.{err_is}
 use Rattle.column_reader.proofs.LogLemmas.{err_so, logs_as, logs_none}
 use Rattle.segment_scan.proofs.SegmentLemmas.{adds_whole, bad_whole, logs_names, mark_named, marks_are, marks_few, ok_so, overfull_whole}
+use Rattle.group_table.specs.Pooled.{in_pool}
 use Rattle.segment_scan.proofs.whole.scan_whole.Goals as goal
 
 pub named_columns-requires : goal.named_columns-requires
-named_columns-requires g c = let at_most = c.requires.valid.schema.at_most in omega (arith, at_most, c.len.ensures)
+named_columns-requires g c = let at_most = c.requires.room.valid.schema.at_most in omega (arith, at_most, c.len.ensures)
 
 pub scan_columns-requires-clause-readable : goal.scan_columns-requires-clause-readable
 scan_columns-requires-clause-readable g c = record {
@@ -19,17 +20,17 @@ scan_columns-requires-clause-readable g c = record {
       let named : List Bool = c.as_slice-named.result.now in
       let is : named ≡ names_in c.args.query.now c.args.table.now =
       marks_are c.args.query.now c.args.table.now named c.len.result c.len.ensures (ap length c.as_slice-named.ensures.value ∙ c.in_ok-named.ensures.count) (λ column lt. ap (λ (l : List Bool). get_or l column false) c.as_slice-named.ensures.value ∙ c.in_ok-named.ensures.each column lt) in
-      marks_few c.args.query.now c.args.table.now named is c.requires.valid;
+      marks_few c.args.query.now c.args.table.now named is c.requires.room.valid;
   each =
       λ column marked.
       let named : List Bool = c.as_slice-named.result.now in
       let is : named ≡ names_in c.args.query.now c.args.table.now =
       marks_are c.args.query.now c.args.table.now named c.len.result c.len.ensures (ap length c.as_slice-named.ensures.value ∙ c.in_ok-named.ensures.count) (λ column lt. ap (λ (l : List Bool). get_or l column false) c.as_slice-named.ensures.value ∙ c.in_ok-named.ensures.each column lt) in
-      loaded_readable c.args.table.now c.args.head.now column c.requires.of_table (c.requires.loaded column (mark_named c.args.query.now c.args.table.now named is column marked));
+      loaded_readable c.args.table.now c.args.head.now column c.requires.room.of_table (c.requires.room.loaded column (mark_named c.args.query.now c.args.table.now named is column marked));
 }
 
 pub scan_columns-requires-clause-few_rows : goal.scan_columns-requires-clause-few_rows
-scan_columns-requires-clause-few_rows g c = let at_most = c.requires.of_table.at_most in let rows = c.requires.of_table.has.rows_are in omega (arith, at_most, rows)
+scan_columns-requires-clause-few_rows g c = let at_most = c.requires.room.of_table.at_most in let rows = c.requires.room.of_table.has.rows_are in omega (arith, at_most, rows)
 
 pub returns-clause-ok : goal.returns-clause-ok
 returns-clause-ok g c =
@@ -37,8 +38,8 @@ returns-clause-ok g c =
     let held : Option Files = g.S.Shelf.held c.args.shelf.now in
     let is : named ≡ names_in c.args.query.now c.args.table.now =
     marks_are c.args.query.now c.args.table.now named c.len.result c.len.ensures (ap length c.as_slice-named.ensures.value ∙ c.in_ok-named.ensures.count) (λ column lt. ap (λ (l : List Bool). get_or l column false) c.as_slice-named.ensures.value ∙ c.in_ok-named.ensures.each column lt) in
-    ok_so c.scan_columns.result (AddsSegment c.args.query.now held c.args.head.now named c.args.groups.now c.scan_columns.new.groups) (AddsWhole c.args.query.now c.args.table.now held c.args.head.now c.args.groups.now c.scan_columns.new.groups)
-    (adds_whole c.image_law.ensures c.args.query.now c.args.table.now held c.args.head.now c.requires.valid c.requires.of_table c.requires.loaded named is c.args.groups.now c.scan_columns.new.groups)
+    ok_so c.scan_columns.result (AddsSegment c.args.query.now held c.args.head.now named (in_pool c.args.groups.now c.args.pool.now) (in_pool c.scan_columns.new.groups c.scan_columns.new.pool)) (AddsWhole c.args.query.now c.args.table.now held c.args.head.now (in_pool c.args.groups.now c.args.pool.now) (in_pool c.scan_columns.new.groups c.scan_columns.new.pool))
+    (adds_whole c.image_law.ensures c.args.query.now c.args.table.now held c.args.head.now c.requires.room.valid c.requires.room.of_table c.requires.room.loaded named is (in_pool c.args.groups.now c.args.pool.now) (in_pool c.scan_columns.new.groups c.scan_columns.new.pool))
     c.scan_columns.ensures.ok
 
 pub returns-clause-full : goal.returns-clause-full
@@ -46,14 +47,14 @@ returns-clause-full g c = λ full.
     let named : List Bool = c.as_slice-named.result.now in
     let is : named ≡ names_in c.args.query.now c.args.table.now =
     marks_are c.args.query.now c.args.table.now named c.len.result c.len.ensures (ap length c.as_slice-named.ensures.value ∙ c.in_ok-named.ensures.count) (λ column lt. ap (λ (l : List Bool). get_or l column false) c.as_slice-named.ensures.value ∙ c.in_ok-named.ensures.each column lt) in
-    overfull_whole c.image_law.ensures c.args.query.now c.args.table.now (g.S.Shelf.held c.args.shelf.now) c.args.head.now c.requires.valid c.requires.of_table c.requires.loaded named is c.args.groups.now (c.scan_columns.ensures.full full)
+    overfull_whole c.image_law.ensures c.args.query.now c.args.table.now (g.S.Shelf.held c.args.shelf.now) c.args.head.now c.requires.room.valid c.requires.room.of_table c.requires.room.loaded named is (in_pool c.args.groups.now c.args.pool.now) (c.scan_columns.ensures.full full)
 
 pub returns-clause-bad : goal.returns-clause-bad
 returns-clause-bad g c = λ part bad.
     let named : List Bool = c.as_slice-named.result.now in
     let is : named ≡ names_in c.args.query.now c.args.table.now =
     marks_are c.args.query.now c.args.table.now named c.len.result c.len.ensures (ap length c.as_slice-named.ensures.value ∙ c.in_ok-named.ensures.count) (λ column lt. ap (λ (l : List Bool). get_or l column false) c.as_slice-named.ensures.value ∙ c.in_ok-named.ensures.each column lt) in
-    bad_whole c.image_law.ensures c.args.query.now c.args.table.now (g.S.Shelf.held c.args.shelf.now) c.args.head.now c.requires.valid c.requires.of_table c.requires.loaded named is part (c.scan_columns.ensures.bad part bad)
+    bad_whole c.image_law.ensures c.args.query.now c.args.table.now (g.S.Shelf.held c.args.shelf.now) c.args.head.now c.requires.room.valid c.requires.room.of_table c.requires.room.loaded named is part (c.scan_columns.ensures.bad part bad)
 
 pub returns-clause-reads : goal.returns-clause-reads
 returns-clause-reads g c = record {
@@ -84,4 +85,4 @@ returns-in_err-named-clause-reads g c = record {
 }
 
 pub scan_columns-requires-clause-room : goal.scan_columns-requires-clause-room
-scan_columns-requires-clause-room g c = record { of_query = c.requires.of_query; fits = c.requires.fits }
+scan_columns-requires-clause-room g c = record { of_query = c.requires.room.of_query; fits = c.requires.room.fits }

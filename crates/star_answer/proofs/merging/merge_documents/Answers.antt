@@ -8,6 +8,7 @@ use Rattle.agg_laws.specs.Merged.{weights}
 use Rattle.group_table.specs.Kept.{groups_in}
 use Rattle.scan_engine.proofs.AddLemmas.{at_most_more}
 use Rattle.star_answer.proofs.MergeSteps as steps
+use Rattle.group_table.specs.Pooled.{in_pool}
 use Rattle.star_answer.proofs.merging.merge_documents.Goals as goal
 
 pub merge_last-requires-clause-at_most : goal.merge_last-requires-clause-at_most
@@ -39,7 +40,7 @@ merge_last-requires-clause-merges c =
       few_kinds = subst (λ (l : List AggKind). length l ≤ 16) (sym kinds) c.requires.merges.few_kinds;
       as_many = c.requires.merges.as_many;
       kinds = c.requires.merges.kinds ∙ sym kinds;
-      fits = at_most_more (groups_in c.args.groups.now) (most_values - weights row_weight docs)
+      fits = at_most_more (groups_in (in_pool c.args.groups.now c.args.pool.now)) (most_values - weights row_weight docs)
           (most_values - weights row_weight (drop c.len-count.result c.append_merged.new.self.docs))
           (omega (arith, weight_fits)) c.requires.merges.fits;
     }
@@ -51,8 +52,8 @@ returns-clause-ok c =
     c.len-count.result _ _ c.len-count.ensures.count c.in_ok-reserve.ensures.ok
     c.in_ok-append_merged.ensures.ok in
     on_ok_weaker c.merge_last.result (steps.rest_merges c.args.columns.now docs
-    (drop c.len-count.result c.append_merged.new.self.docs) merged.rest c.args.groups.now
-    c.merge_last.new.groups) c.merge_last.ensures.ok
+    (drop c.len-count.result c.append_merged.new.self.docs) merged.rest (in_pool c.args.groups.now c.args.pool.now)
+    (in_pool c.merge_last.new.groups c.merge_last.new.pool)) c.merge_last.ensures.ok
 
 pub returns-clause-full : goal.returns-clause-full
 returns-clause-full c is =
@@ -61,4 +62,4 @@ returns-clause-full c is =
     c.len-count.result _ _ c.len-count.ensures.count c.in_ok-reserve.ensures.ok
     c.in_ok-append_merged.ensures.ok in
     steps.rest_over c.args.columns.now docs (drop c.len-count.result
-    c.append_merged.new.self.docs) merged.rest c.args.groups.now (c.merge_last.ensures.full is)
+    c.append_merged.new.self.docs) merged.rest (in_pool c.args.groups.now c.args.pool.now) (c.merge_last.ensures.full is)

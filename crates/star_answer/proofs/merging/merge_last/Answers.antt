@@ -9,6 +9,8 @@ use Rattle.scan_engine.proofs.RunLemmas.{same_fault}
 use Rattle.star_reader.specs.Selected.{keyed}
 use Rattle.star_answer.proofs.MergeSteps as steps
 use Rattle.star_answer.proofs.MergeSteps.{upto}
+use Rattle.group_table.specs.Pooled.{in_pool}
+use Rattle.group_table.proofs.SlotFrames.{stays_both}
 use Rattle.star_answer.proofs.merging.merge_last.Goals as goal
 
 pub key_at-requires-clause-ids : goal.key_at-requires-clause-ids
@@ -28,7 +30,7 @@ merge_row-requires-clause-key c =
     ap length c.in_ok-key.ensures
     ∙ steps.length_key c.args.columns.now (doc_at docs at).0
     (steps.key_there docs c.args.from at le lt c.args.columns.now c.requires.merges.keyed)
-    ∙ sym (c.loop-at.invariant.columns ∙ c.requires.merges.as_many)
+    ∙ sym (c.loop-at.invariant.adds.columns ∙ c.requires.merges.as_many)
 
 pub merge_row-requires-clause-kinds : goal.merge_row-requires-clause-kinds
 merge_row-requires-clause-kinds c =
@@ -37,7 +39,7 @@ merge_row-requires-clause-kinds c =
     let lt : at < length t.docs = omega (arith, c.loop-at-test.true, c.len-at-end.ensures.count) in
     ap kinds_of c.in_ok-states.ensures
     ∙ (shape_at t.dims t.kinds t.docs at c.len-at-end.ensures.shape lt).1
-    ∙ sym (c.loop-at.invariant.kinds ∙ c.requires.merges.kinds)
+    ∙ sym (c.loop-at.invariant.adds.kinds ∙ c.requires.merges.kinds)
 
 pub merge_row-requires-clause-values : goal.merge_row-requires-clause-values
 merge_row-requires-clause-values c some =
@@ -61,8 +63,8 @@ merge_row-requires-clause-fits c =
     (steps.fits_stored e.1 (stored_at docs at c.len-at-end.ensures.stored lt)) in
     merged_within _ c.in_ok-key.key c.in_ok-states.states (row_weight e.1)
     (steps.few_there docs from at le lt c.requires.merges.weight_fits)
-    (steps.room_there docs from at le lt es c.args.groups.now c.loop-at.groups c.requires.merges.weight_fits
-    c.requires.merges.fits c.loop-at.invariant) fits
+    (steps.room_there docs from at le lt es (in_pool c.args.groups.now c.args.pool.now) (in_pool c.loop-at.groups c.loop-at.pool) c.requires.merges.weight_fits
+    c.requires.merges.fits c.loop-at.invariant.adds) fits
 
 pub returns-in-Err-clause-full : goal.returns-in-Err-clause-full
 returns-in-Err-clause-full c is =
@@ -72,8 +74,8 @@ returns-in-Err-clause-full c is =
     let lt : at < length docs = omega (arith, c.loop-at-test.true, c.len-at-end.ensures.count) in
     let le : from ≤ at = omega (arith, c.loop-at.auto.at) in
     let full = c.merge_row.ensures.full.0 (c.in-Err.is ∙ same_fault _ _ is) in
-    steps.no_room_there docs from at le lt c.args.columns.now c.in_ok-key.key c.args.groups.now
-    c.loop-at.groups c.in_ok-key.ensures c.loop-at.invariant full.0 full.1
+    steps.no_room_there docs from at le lt c.args.columns.now c.in_ok-key.key (in_pool c.args.groups.now c.args.pool.now)
+    (in_pool c.loop-at.groups c.loop-at.pool) c.in_ok-key.ensures c.loop-at.invariant.adds full.0 full.1
 
 pub loop-at-preserved : goal.loop-at-preserved
 loop-at-preserved c =
@@ -82,7 +84,12 @@ loop-at-preserved c =
     let at = c.loop-at.at in
     let lt : at < length docs = omega (arith, c.loop-at-test.true, c.len-at-end.ensures.count) in
     let le : from ≤ at = omega (arith, c.loop-at.auto.at) in
-    steps.merged_more docs from at le lt c.args.columns.now c.in_ok-key.key c.in_ok-states.states
-    c.args.groups.now c.loop-at.groups c.merge_row.new.self c.in_ok-key.ensures
-    c.in_ok-states.ensures (stored_at docs at c.len-at-end.ensures.stored lt) c.loop-at.invariant
-    c.in_default.ensures.ok
+    record {
+      adds = steps.merged_more docs from at le lt c.args.columns.now c.in_ok-key.key c.in_ok-states.states
+          (in_pool c.args.groups.now c.args.pool.now) (in_pool c.loop-at.groups c.loop-at.pool) (in_pool c.merge_row.new.self c.merge_row.new.pool) c.in_ok-key.ensures
+          c.in_ok-states.ensures (stored_at docs at c.len-at-end.ensures.stored lt) c.loop-at.invariant.adds c.in_default.ensures.ok;
+      stays = stays_both c.args.groups.now c.loop-at.groups c.merge_row.new.self c.args.pool.now c.loop-at.pool c.merge_row.new.pool c.loop-at.invariant.stays c.merge_row.ensures.stays;
+    }
+
+pub returns-in-Err-clause-stays : goal.returns-in-Err-clause-stays
+returns-in-Err-clause-stays c = stays_both c.args.groups.now c.loop-at.groups c.merge_row.new.self c.args.pool.now c.loop-at.pool c.merge_row.new.pool c.loop-at.invariant.stays c.merge_row.ensures.stays

@@ -10,13 +10,14 @@ use Rattle.segment_file.specs.declared.part.Part.TheVariants as parts
 use Rattle.segment_head.specs.declared.fault.EngineFault.TheVariants as segments
 use Rattle.star_answer.specs.Segments.{IsBadTree}
 use Rattle.star_answer.proofs.SegmentSteps as steps
+use Rattle.group_table.specs.Pooled.{in_pool}
 use Rattle.star_answer.proofs.segment.answer_segment.Goals as goal
 
 pub read_tree-requires : goal.read_tree-requires
 read_tree-requires g c = record {
-  valid = c.requires.valid;
-  opened = c.requires.of_table;
-  tree = steps.eligible_there c.args.query.now c.args.table.now.settings.trees c.args.tree c.requires.eligible;
+  valid = c.requires.room.valid;
+  opened = c.requires.room.of_table;
+  tree = steps.eligible_there c.args.query.now c.args.table.now.settings.trees c.args.tree c.requires.room.eligible;
 }
 
 pub returns-in-Err-clause-bad : goal.returns-in-Err-clause-bad
@@ -29,39 +30,39 @@ returns-in-Err-clause-bad g c part is =
 
 pub at-setting-requires : goal.at-setting-requires
 at-setting-requires g c =
-    steps.eligible_there c.args.query.now c.args.table.now.settings.trees c.args.tree c.requires.eligible
+    steps.eligible_there c.args.query.now c.args.table.now.settings.trees c.args.tree c.requires.room.eligible
 
 pub documents_of-requires-clause-tree : goal.documents_of-requires-clause-tree
 documents_of-requires-clause-tree g c =
-    steps.eligible_there c.args.query.now c.args.table.now.settings.trees c.args.tree c.requires.eligible
+    steps.eligible_there c.args.query.now c.args.table.now.settings.trees c.args.tree c.requires.room.eligible
 
 pub tree_task-requires-clause-eligible : goal.tree_task-requires-clause-eligible
 tree_task-requires-clause-eligible g c =
     steps.setting_eligible c.args.query.now c.args.table.now.settings.trees c.args.tree
-    c.at-setting.result.now c.requires.eligible c.at-setting.ensures
+    c.at-setting.result.now c.requires.room.eligible c.at-setting.ensures
 
 pub group_columns-requires-clause-eligible : goal.group_columns-requires-clause-eligible
 group_columns-requires-clause-eligible g c =
     steps.setting_eligible c.args.query.now c.args.table.now.settings.trees c.args.tree
-    c.at-setting.result.now c.requires.eligible c.at-setting.ensures
+    c.at-setting.result.now c.requires.room.eligible c.at-setting.ensures
 
 pub pair_numbers-requires-clause-eligible : goal.pair_numbers-requires-clause-eligible
 pair_numbers-requires-clause-eligible g c =
     steps.setting_eligible c.args.query.now c.args.table.now.settings.trees c.args.tree
-    c.at-setting.result.now c.requires.eligible c.at-setting.ensures
+    c.at-setting.result.now c.requires.room.eligible c.at-setting.ensures
 
 pub group_columns-requires-clause-at_most : goal.group_columns-requires-clause-at_most
 group_columns-requires-clause-at_most g c =
-    (steps.setting_valid c.args.table.now c.args.tree c.at-setting.result.now c.requires.valid
+    (steps.setting_valid c.args.table.now c.args.tree c.at-setting.result.now c.requires.room.valid
     c.at-setting.ensures).few_split
 
 pub pair_numbers-requires-clause-at_most : goal.pair_numbers-requires-clause-at_most
 pair_numbers-requires-clause-at_most g c =
-    (steps.setting_valid c.args.table.now c.args.tree c.at-setting.result.now c.requires.valid
+    (steps.setting_valid c.args.table.now c.args.tree c.at-setting.result.now c.requires.room.valid
     c.at-setting.ensures).few_pairs
 
-pub answer_tree-requires : goal.answer_tree-requires
-answer_tree-requires g c =
+pub answer_tree-requires-clause-room : goal.answer_tree-requires-clause-room
+answer_tree-requires-clause-room g c =
     let query = c.args.query.now in
     let table = c.args.table.now in
     let head : Seen = c.args.head.now in
@@ -75,8 +76,8 @@ answer_tree-requires g c =
     let now : Option Files = g.S.Shelf.held c.read_tree.new.shelf in
     let ready = steps.ready_so query table head t setting part task asked said
     c.in-Ok.opened.counts.items c.documents_of.result.now c.in_ok-columns.columns.items
-    c.in_ok-pairs.pairs.items held c.requires.valid c.requires.of_table c.requires.query_valid
-    c.requires.eligible c.requires.loaded c.requires.groups_loaded c.at-setting.ensures
+    c.in_ok-pairs.pairs.items held c.requires.room.valid c.requires.room.of_table c.requires.room.query_valid
+    c.requires.room.eligible c.requires.room.loaded c.requires.room.groups_loaded c.at-setting.ensures
     c.in-Ok.ensures.reads.told c.in-Ok.ensures.counts c.in-Ok.ensures.keeps c.of_file-part.ensures.shape
     c.of_file-part.ensures.counts c.of_file-part.ensures.nodes c.of_file-part.ensures.documents
     c.documents_of.ensures c.in_ok-task.ensures.each c.in_ok-task.ensures.entries
@@ -91,12 +92,12 @@ answer_tree-requires g c =
           c.in-Ok.ensures.reads.only_reads.held c.head_tells_law.ensures c.rows.result c.rows.ensures;
       table =
           steps.ready_table query table head t setting part task asked said held now ready
-          c.in-Ok.ensures.reads.only_reads.held c.head_tells_law.ensures c.rows.result c.rows.ensures c.args.groups.now c.requires.of_query;
+          c.in-Ok.ensures.reads.only_reads.held c.head_tells_law.ensures c.rows.result c.rows.ensures (in_pool c.args.groups.now c.args.pool.now) c.requires.room.of_query;
       few_rows =
-          let at_most = c.requires.of_table.at_most in
-          let rows = c.requires.of_table.has.rows_are in
+          let at_most = c.requires.room.of_table.at_most in
+          let rows = c.requires.room.of_table.has.rows_are in
           omega (arith, at_most, rows, c.rows.ensures);
-      fits = subst (λ n. HaveAtMost (most_values - n) (groups_in c.args.groups.now)) (sym c.rows.ensures) c.requires.fits;
+      fits = subst (λ n. HaveAtMost (most_values - n) (groups_in (in_pool c.args.groups.now c.args.pool.now))) (sym c.rows.ensures) c.requires.room.fits;
     }
 
 pub returns-in-Ok-answer_tree-clause-count : goal.returns-in-Ok-answer_tree-clause-count
@@ -114,8 +115,8 @@ returns-in-Ok-answer_tree-clause-count g c =
     let now : Option Files = g.S.Shelf.held c.read_tree.new.shelf in
     let ready = steps.ready_so query table head t setting part task asked said
     c.in-Ok.opened.counts.items c.documents_of.result.now c.in_ok-columns.columns.items
-    c.in_ok-pairs.pairs.items held c.requires.valid c.requires.of_table c.requires.query_valid
-    c.requires.eligible c.requires.loaded c.requires.groups_loaded c.at-setting.ensures
+    c.in_ok-pairs.pairs.items held c.requires.room.valid c.requires.room.of_table c.requires.room.query_valid
+    c.requires.room.eligible c.requires.room.loaded c.requires.room.groups_loaded c.at-setting.ensures
     c.in-Ok.ensures.reads.told c.in-Ok.ensures.counts c.in-Ok.ensures.keeps c.of_file-part.ensures.shape
     c.of_file-part.ensures.counts c.of_file-part.ensures.nodes c.of_file-part.ensures.documents
     c.documents_of.ensures c.in_ok-task.ensures.each c.in_ok-task.ensures.entries
@@ -123,7 +124,7 @@ returns-in-Ok-answer_tree-clause-count g c =
     c.as_slice-2.ensures.value in
     steps.ready_docs query table head t setting part task asked said held now ready
     c.in-Ok.ensures.reads.only_reads.held c.head_tells_law.ensures c.rows.result c.rows.ensures
-    c.docs_read_law.ensures.read c.args.groups.now c.answer_tree.new.groups c.in-Ok-answer_tree.count
+    c.docs_read_law.ensures.read (in_pool c.args.groups.now c.args.pool.now) (in_pool c.answer_tree.new.groups c.answer_tree.new.pool) c.in-Ok-answer_tree.count
     c.in-Ok-answer_tree.ensures.count c.in-Ok-answer_tree.ensures.ok
 
 pub returns-in-Ok-answer_tree-clause-ok : goal.returns-in-Ok-answer_tree-clause-ok
@@ -141,8 +142,8 @@ returns-in-Ok-answer_tree-clause-ok g c =
     let now : Option Files = g.S.Shelf.held c.read_tree.new.shelf in
     let ready = steps.ready_so query table head t setting part task asked said
     c.in-Ok.opened.counts.items c.documents_of.result.now c.in_ok-columns.columns.items
-    c.in_ok-pairs.pairs.items held c.requires.valid c.requires.of_table c.requires.query_valid
-    c.requires.eligible c.requires.loaded c.requires.groups_loaded c.at-setting.ensures
+    c.in_ok-pairs.pairs.items held c.requires.room.valid c.requires.room.of_table c.requires.room.query_valid
+    c.requires.room.eligible c.requires.room.loaded c.requires.room.groups_loaded c.at-setting.ensures
     c.in-Ok.ensures.reads.told c.in-Ok.ensures.counts c.in-Ok.ensures.keeps c.of_file-part.ensures.shape
     c.of_file-part.ensures.counts c.of_file-part.ensures.nodes c.of_file-part.ensures.documents
     c.documents_of.ensures c.in_ok-task.ensures.each c.in_ok-task.ensures.entries
@@ -150,7 +151,7 @@ returns-in-Ok-answer_tree-clause-ok g c =
     c.as_slice-2.ensures.value in
     steps.ready_adds query table head t setting part task asked said held now ready
     c.in-Ok.ensures.reads.only_reads.held c.head_tells_law.ensures c.rows.result c.rows.ensures
-    c.served_law.ensures.adds c.args.groups.now c.answer_tree.new.groups c.requires.of_query
+    c.served_law.ensures.adds (in_pool c.args.groups.now c.args.pool.now) (in_pool c.answer_tree.new.groups c.answer_tree.new.pool) c.requires.room.of_query
     c.in-Ok-answer_tree.ensures.ok
 
 pub returns-in-Ok-answer_tree-clause-log : goal.returns-in-Ok-answer_tree-clause-log
@@ -168,8 +169,8 @@ returns-in-Ok-answer_tree-clause-log g c =
     let now : Option Files = g.S.Shelf.held c.read_tree.new.shelf in
     let ready = steps.ready_so query table head t setting part task asked said
     c.in-Ok.opened.counts.items c.documents_of.result.now c.in_ok-columns.columns.items
-    c.in_ok-pairs.pairs.items held c.requires.valid c.requires.of_table c.requires.query_valid
-    c.requires.eligible c.requires.loaded c.requires.groups_loaded c.at-setting.ensures
+    c.in_ok-pairs.pairs.items held c.requires.room.valid c.requires.room.of_table c.requires.room.query_valid
+    c.requires.room.eligible c.requires.room.loaded c.requires.room.groups_loaded c.at-setting.ensures
     c.in-Ok.ensures.reads.told c.in-Ok.ensures.counts c.in-Ok.ensures.keeps c.of_file-part.ensures.shape
     c.of_file-part.ensures.counts c.of_file-part.ensures.nodes c.of_file-part.ensures.documents
     c.documents_of.ensures c.in_ok-task.ensures.each c.in_ok-task.ensures.entries
@@ -197,8 +198,8 @@ returns-clause-full g c is =
     let now : Option Files = g.S.Shelf.held c.read_tree.new.shelf in
     let ready = steps.ready_so query table head t setting part task asked said
     c.in-Ok.opened.counts.items c.documents_of.result.now c.in_ok-columns.columns.items
-    c.in_ok-pairs.pairs.items held c.requires.valid c.requires.of_table c.requires.query_valid
-    c.requires.eligible c.requires.loaded c.requires.groups_loaded c.at-setting.ensures
+    c.in_ok-pairs.pairs.items held c.requires.room.valid c.requires.room.of_table c.requires.room.query_valid
+    c.requires.room.eligible c.requires.room.loaded c.requires.room.groups_loaded c.at-setting.ensures
     c.in-Ok.ensures.reads.told c.in-Ok.ensures.counts c.in-Ok.ensures.keeps c.of_file-part.ensures.shape
     c.of_file-part.ensures.counts c.of_file-part.ensures.nodes c.of_file-part.ensures.documents
     c.documents_of.ensures c.in_ok-task.ensures.each c.in_ok-task.ensures.entries
@@ -207,7 +208,7 @@ returns-clause-full g c is =
     let own : c.of_tree.result ≡ segments.TooManyGroups = cc in
     steps.ready_full query table head t setting part task asked said held now ready
     c.in-Ok.ensures.reads.only_reads.held c.head_tells_law.ensures c.rows.result c.rows.ensures
-    c.served_law.ensures.overfull c.args.groups.now c.requires.of_query
+    c.served_law.ensures.overfull (in_pool c.args.groups.now c.args.pool.now) c.requires.room.of_query
     (c.in-Err-answer_tree.ensures.full (ap Err (c.of_tree.ensures.full own)))
 
 pub returns-clause-bad : goal.returns-clause-bad
@@ -225,8 +226,8 @@ returns-clause-bad g c bad is =
     let now : Option Files = g.S.Shelf.held c.read_tree.new.shelf in
     let ready = steps.ready_so query table head t setting part task asked said
     c.in-Ok.opened.counts.items c.documents_of.result.now c.in_ok-columns.columns.items
-    c.in_ok-pairs.pairs.items held c.requires.valid c.requires.of_table c.requires.query_valid
-    c.requires.eligible c.requires.loaded c.requires.groups_loaded c.at-setting.ensures
+    c.in_ok-pairs.pairs.items held c.requires.room.valid c.requires.room.of_table c.requires.room.query_valid
+    c.requires.room.eligible c.requires.room.loaded c.requires.room.groups_loaded c.at-setting.ensures
     c.in-Ok.ensures.reads.told c.in-Ok.ensures.counts c.in-Ok.ensures.keeps c.of_file-part.ensures.shape
     c.of_file-part.ensures.counts c.of_file-part.ensures.nodes c.of_file-part.ensures.documents
     c.documents_of.ensures c.in_ok-task.ensures.each c.in_ok-task.ensures.entries
@@ -262,8 +263,8 @@ returns-clause-log_of_fault g c =
     let now : Option Files = g.S.Shelf.held c.read_tree.new.shelf in
     let ready = steps.ready_so query table head t setting part task asked said
     c.in-Ok.opened.counts.items c.documents_of.result.now c.in_ok-columns.columns.items
-    c.in_ok-pairs.pairs.items held c.requires.valid c.requires.of_table c.requires.query_valid
-    c.requires.eligible c.requires.loaded c.requires.groups_loaded c.at-setting.ensures
+    c.in_ok-pairs.pairs.items held c.requires.room.valid c.requires.room.of_table c.requires.room.query_valid
+    c.requires.room.eligible c.requires.room.loaded c.requires.room.groups_loaded c.at-setting.ensures
     c.in-Ok.ensures.reads.told c.in-Ok.ensures.counts c.in-Ok.ensures.keeps c.of_file-part.ensures.shape
     c.of_file-part.ensures.counts c.of_file-part.ensures.nodes c.of_file-part.ensures.documents
     c.documents_of.ensures c.in_ok-task.ensures.each c.in_ok-task.ensures.entries

@@ -1,12 +1,7 @@
-use Rattle.std.proofs.Common.{◌≡◌, sym, subst, ◌∙◌, arith}
-use Rattle.std.specs.FinMap as finite
-use Rattle.group_table.specs.Kept.{KeptGroups, groups_in}
-use Rattle.group_table.proofs.KeptLemmas.{len_once}
+use Rattle.std.proofs.Common.{◌∙◌, length, sym, ap}
+use Rattle.group_table.specs.Pooled.{PooledTable}
+use Rattle.group_table.proofs.PooledSteps.{counted}
 use Rattle.group_table.proofs.table.GroupTable.groups.Goals as goal
 
-pub overflow_cast-result : goal.overflow_cast-result
-overflow_cast-result c = omega (arith, c.self.invariant.at_most, c.self.invariant.most_fits, c.len.ensures.len)
-
 pub returns-clause-count : goal.returns-clause-count
-returns-clause-count c = subst (λ (t : KeptGroups). c.len.result ≡ finite.len (groups_in t)) c.self.view_is
-    (c.len.ensures.len ∙ sym (len_once c.self.inside.groups.entries c.self.invariant.once))
+returns-clause-count c pool table = c.len.ensures.len ∙ ap (λ (t : PooledTable). length t.slots) c.self.view_is ∙ sym (counted c.args.self.now pool table)

@@ -1,27 +1,29 @@
-use Rattle.std.proofs.Common.{◌≡◌, ◌∙◌, ◌<◌, ◌+◌, length, sym, ap, subst, is_some, if◌then◌else◌}
-use Rattle.std.specs.FinMap as finite
+use Rattle.std.proofs.Common.{◌≡◌, ◌∙◌, [], ◌∷◌, ◌++◌, None, ap, subst}
+use Rattle.std.specs.List.{IsDistinct}
+use Rattle.std.specs.Map.{keys_of, lookup}
 use Rattle.indexmap.proofs.CallerLemmas.{insert_entry-new}
-use Rattle.group_table.specs.Kept.{KeptGroups, groups_in, key_eq, IsGroup, IsNewKey, Merges}
+use Rattle.state_pool.specs.Pool.{Takes}
+use Rattle.group_table.specs.Kept.{key_eq}
+use Rattle.group_table.specs.Pooled.{PooledTable, with_slots}
 use Rattle.group_table.specs.contracts.table.GroupTable.{the_view}
-use Rattle.group_table.proofs.KeptLemmas.{get_lookup}
-use Rattle.group_table.proofs.KeptSteps.{pushed_table, merges, new_with, with_groups}
 use Rattle.group_table.proofs.table.GroupTable.start.Goals as goal
-
-pub invariant_of-self-2 : goal.invariant_of-self-2
-invariant_of-self-2 c =
-    let t : KeptGroups = the_view c.self.inside in
-    let new : IsNewKey t c.args.key = subst (λ (t : KeptGroups). IsNewKey t c.args.key) (sym c.self.view_is) c.requires.new in
-    let room : finite.len (groups_in t) < t.most = subst (λ (t : KeptGroups). finite.len (groups_in t) < t.most) (sym c.self.view_is) c.requires.room in
-    let group : IsGroup t.columns t.kinds (c.args.key, c.args.states) = subst (λ (t : KeptGroups). IsGroup t.columns t.kinds (c.args.key, c.args.states)) (sym c.self.view_is) c.requires.group in
-    let absent = sym (get_lookup t.groups c.args.key) ∙ new in
-    let len : length c.insert.new.self.entries ≡ length t.groups + 1 = c.in_ok-insert.ensures.len ∙ ap (λ o. length t.groups + (if is_some o then 0 else 1)) (c.in_ok-insert.ensures.old ∙ absent) in
-    pushed_table t c.args.key c.args.states c.insert.new.self.entries c.self.invariant group room
-    (c.in_ok-insert.ensures.entries ∙ insert_entry-new key_eq c.self.inside.groups c.args.key c.args.states absent)
-    c.insert.ensures.unique len
 
 pub returns-clause-ok : goal.returns-clause-ok
 returns-clause-ok c =
-    let t : KeptGroups = the_view c.self.inside in
-    let new : IsNewKey t c.args.key = subst (λ (t : KeptGroups). IsNewKey t c.args.key) (sym c.self.view_is) c.requires.new in
-    subst (λ (t : KeptGroups). Merges c.args.key c.args.states t (with_groups (the_view c.self.inside) c.insert.new.self.entries)) c.self.view_is
-    (merges t c.args.key c.args.states c.insert.new.self.entries c.args.states (sym (new_with t c.args.key c.args.states new)) c.in_ok-insert.ensures.updates.0)
+    let t : PooledTable = the_view c.self.inside in
+    let same : c.in_ok-key.key ≡ c.args.key.now = c.in_ok-key.ensures in
+    let kept : c.reserve.new.self.entries ≡ t.slots = c.in_ok-reserve.ensures.entries in
+    let absent : lookup (key_eq c.in_ok-key.key) c.reserve.new.self.entries ≡ None =
+    (λ i. lookup (key_eq (same i)) (kept i)) ∙ ap (λ (t : PooledTable). lookup (key_eq c.args.key.now) t.slots) c.self.view_is ∙ c.requires.absent in
+    let pushed : c.insert.new.self.entries ≡ c.args.self.now.slots ++ (c.args.key.now, c.in-Some.slot) ∷ [] =
+    c.in_default-insert.ensures.entries ∙ insert_entry-new key_eq c.reserve.new.self c.in_ok-key.key c.in-Some.slot absent
+    ∙ (λ i. kept i ++ (same i, c.in-Some.slot) ∷ []) ∙ ap (λ (t : PooledTable). t.slots ++ (c.args.key.now, c.in-Some.slot) ∷ []) c.self.view_is in (
+      c.in-Some.slot,
+      record {
+        absent = c.requires.absent;
+        room = c.requires.room;
+        table = ap (with_slots t) pushed ∙ ap (λ (t : PooledTable). with_slots t (c.args.self.now.slots ++ (c.args.key.now, c.in-Some.slot) ∷ [])) c.self.view_is;
+        once = subst (λ es. IsDistinct key_eq (keys_of es)) pushed c.insert.ensures.unique;
+        takes = subst (λ (t : PooledTable). Takes t.owner c.in-Some.slot c.args.pool.now c.take.new.self) c.self.view_is c.in-Some.ensures.taken;
+      },
+    )

@@ -4,7 +4,7 @@ use Rattle.group_table.specs.Kept.{KeptGroups, group_at}
 use Rattle.broker_merge.specs.Ranked.{BeginInOrder}
 use Rattle.broker_merge.specs.Answer.{item_cell}
 use Rattle.broker_merge.proofs.AnswerLemmas.{rows_are}
-use Rattle.broker_merge.proofs.rows.finish.Goals as goal
+use Rattle.broker_merge.proofs.rows.finish_groups.Goals as goal
 
 pub rows_of-requires-clause-table : goal.rows_of-requires-clause-table
 rows_of-requires-clause-table c = c.first_in_order.ensures.table

@@ -1,0 +1,55 @@
+-- Cells from a place on, of which the first ones were merged.
+use Rattle.std.proofs.Common.{◌≡◌, ◌∙◌, ℕ, zero, suc, ◌+◌, ◌-◌, ◌<◌, ◌≤◌, List, [], ◌∷◌, ◌++◌, length, get_or, set, take, drop, refl, sym, ap, arith, length-drop}
+use Rattle.std.proofs.lemmas.List.{length-take-le, take-append-drop, drop-drop, set-append_left, set-append_right, get_or_append_left, get_or-append_right}
+use Rattle.agg_laws.specs.declared.states.AggState.{AggState}
+use Rattle.agg_laws.specs.States.{merged}
+use Rattle.agg_laws.specs.Rows.{merged_rows}
+use Rattle.state_columns.proofs.RowPlaces.{mixed, mixed_at, mixed_more, mixed_all}
+use Rattle.state_pool.specs.Kept.{part_of, with_part}
+
+length-mixed : (n : ℕ) (vs ws : List AggState) → length (mixed n vs ws) ≡ length vs
+length-mixed zero vs ws = refl
+length-mixed (suc n) [] ws = refl
+length-mixed (suc n) (v ∷ vs) [] = refl
+length-mixed (suc n) (v ∷ vs) (w ∷ ws) = ap suc (length-mixed n vs ws)
+
+module _ (xs : List AggState) (from n : ℕ) (le : from + n ≤ length xs) where
+  front : length (take from xs) ≡ from
+  front = length-take-le from xs (omega (arith, le))
+
+  pub length-part : length (part_of xs from n) ≡ n
+  length-part = length-take-le n (drop from xs) (omega (arith, le, length-drop from xs))
+
+  -- the cells as they are
+  pub part_whole : xs ≡ with_part xs from n (part_of xs from n)
+  part_whole = sym (take-append-drop from xs)
+      ∙ ap (λ l. take from xs ++ l) (sym (take-append-drop n (drop from xs)) ∙ ap (λ l. take n (drop from xs) ++ l) (drop-drop n from xs))
+
+  -- one of them, in the cells with others in their place
+  part_get : (ms : List AggState) (i : ℕ) (d : AggState) → length ms ≡ n → i < n → get_or (with_part xs from n ms) (from + i) d ≡ get_or ms i d
+  part_get ms i d len lt = get_or-append_right (take from xs) (ms ++ drop (from + n) xs) from (from + i) d front (omega arith)
+      ∙ ap (λ k. get_or (ms ++ drop (from + n) xs) k d) (let e : from + i - from ≡ i = omega arith in e)
+      ∙ get_or_append_left ms (drop (from + n) xs) d i (omega (arith, len, lt))
+
+  part_set : (ms : List AggState) (i : ℕ) (u : AggState) → length ms ≡ n → i < n → set (with_part xs from n ms) (from + i) u ≡ with_part xs from n (set ms i u)
+  part_set ms i u len lt = set-append_right (take from xs) (ms ++ drop (from + n) xs) from (from + i) u front (omega arith)
+      ∙ ap (λ k. take from xs ++ set (ms ++ drop (from + n) xs) k u) (let e : from + i - from ≡ i = omega arith in e)
+      ∙ ap (λ l. take from xs ++ l) (set-append_left ms (drop (from + n) xs) i u (omega (arith, len, lt)))
+
+  -- the first i of them are merged with others
+  module _ (ws cells : List AggState) (i : ℕ) (d : AggState) (lt : i < n) (is : cells ≡ with_part xs from n (mixed i (part_of xs from n) ws)) where
+    long : length (mixed i (part_of xs from n) ws) ≡ n
+    long = length-mixed i (part_of xs from n) ws ∙ length-part
+
+    pub next_here : get_or cells (from + i) d ≡ get_or (part_of xs from n) i d
+    next_here = ap (λ l. get_or l (from + i) d) is ∙ part_get (mixed i (part_of xs from n) ws) i d long lt ∙ mixed_at i (part_of xs from n) ws i d (omega arith)
+
+    pub next_merged : (e u : AggState) → n ≡ length ws → u ≡ merged (get_or (part_of xs from n) i d) (get_or ws i e)
+        → set cells (from + i) u ≡ with_part xs from n (mixed (i + 1) (part_of xs from n) ws)
+    next_merged e u len so = (λ k. set (is k) (from + i) (so k)) ∙ part_set (mixed i (part_of xs from n) ws) i (merged (get_or (part_of xs from n) i d) (get_or ws i e)) long lt
+        ∙ ap (with_part xs from n) (mixed_more i (part_of xs from n) ws d e (omega (arith, lt, length-part)) (length-part ∙ len))
+
+  pub all_merged : (ws cells : List AggState) (i : ℕ) → i ≡ n → n ≡ length ws → cells ≡ with_part xs from n (mixed i (part_of xs from n) ws)
+      → cells ≡ with_part xs from n (merged_rows (part_of xs from n) ws)
+  all_merged ws cells i end len is = is ∙ ap (λ k. with_part xs from n (mixed k (part_of xs from n) ws)) (end ∙ sym length-part)
+      ∙ ap (with_part xs from n) (mixed_all (part_of xs from n) ws (length-part ∙ len))

@@ -1,0 +1,36 @@
+//! States in cells that stand for more values.
+
+ghost use Rattle.std.specs.Prelude.{◌≡◌, ◌+◌, ◌≤◌, ◌∷◌, [], length};
+ghost use Rattle.agg_laws.specs.Numbers.{most_values};
+ghost use Rattle.agg_laws.specs.Rows.{row_of, kinds_of, merged_rows, RowFits};
+ghost use Rattle.state_pool.specs.Kept.{part_of, with_part};
+
+use agg_laws::AggState;
+
+/// Adds a value to the state in its place, from a place on.
+pub(crate) fn add_cells(cells: &mut [AggState], from: usize, values: &[i64])
+    requires within { from + length values.now ≤ length cells.old }
+    requires fits { let own = part_of cells.old from (length values.now) in
+        RowFits (merged_rows own (row_of (kinds_of own) (values.now ∷ []))) most_values }
+    ensures { let own = part_of cells.old from (length values.now) in cells.new
+        ≡ with_part cells.old from (length values.now)
+        (merged_rows own (row_of (kinds_of own) (values.now ∷ []))) }
+{
+    for i in 0..values.len() {
+        cells[from + i].add(values[i]);
+    }
+}
+
+/// Merges states place by place into those from a place on.
+pub(crate) fn merge_cells(cells: &mut [AggState], from: usize, states: &[AggState])
+    requires within { from + length states.now ≤ length cells.old }
+    requires kinds { kinds_of (part_of cells.old from (length states.now)) ≡ kinds_of states.now }
+    requires fits { RowFits (merged_rows (part_of cells.old from (length states.now)) states.now)
+        most_values }
+    ensures { cells.new ≡ with_part cells.old from (length states.now)
+        (merged_rows (part_of cells.old from (length states.now)) states.now) }
+{
+    for i in 0..states.len() {
+        cells[from + i].merge(&states[i]);
+    }
+}
