@@ -80,12 +80,7 @@ fn is_stored(
 }
 
 /// How long the sections of the file of these rows are, in the order of its directory.
-pub fn lengths(
-    alloc: Global,
-    table: &Table,
-    name: &str,
-    csv: &[u8],
-) -> Result<String, AllocError>
+pub fn lengths(alloc: Global, table: &Table, name: &str, csv: &[u8]) -> Result<String, AllocError>
     requires valid { IsValidTable table.now }
 {
     if !is_segment_name(name) || csv.len() as u64 > CSV_LIMIT {

@@ -4,6 +4,10 @@ ghost use Rattle.csv_ingest.specs.Blocks.{RowsOrFault};
 ghost use Rattle.csv_ingest.specs.Blocks.{text_limit};
 ghost use Rattle.csv_ingest.specs.NumberBlocks.{Gives};
 ghost use Rattle.csv_ingest.specs.Rows.{with_schema};
+ghost use Rattle.group_table.specs.Kept.{IsNew};
+ghost use Rattle.group_table.specs.Pooled.{IsTableIn, in_pool};
+ghost use Rattle.group_table.specs.QueryPool.{Limits};
+ghost use Rattle.sql_reply.specs.Reply.{most_groups};
 ghost use Rattle.table_schema.specs.ValidQuery.{IsValidQuery};
 ghost use Rattle.text_scan.specs.Parts.{IsText, RepliesToAll};
 ghost use Rattle.text_scan.specs.TextReply.{Replies, rows_reply, text_reply};
@@ -12,7 +16,7 @@ use crate::ScanFault;
 use crate::bound::bound_query;
 use crate::groups::{csv_fault, group_text, pass_over};
 use csv_ingest::{NumberBlocks, number_blocks};
-use group_table::{GroupTable, pool_for};
+use group_table::{GroupTable, SlotPool, pool_for};
 use outside::Bytes;
 use sql_reply::{MOST_GROUPS, answer};
 use std::alloc::Global;
@@ -65,8 +69,26 @@ fn group_reply(
 {
     let mut pool = pool_for(alloc, bound, MOST_GROUPS)?;
     let mut table = GroupTable::new(alloc, bound, &mut pool, 0)?;
-    if group_text(alloc, blocks, bound, &mut table, &mut pool)? {
-        Ok(answer(alloc, bound, &table, &pool)?)
+    reply_by(alloc, blocks, bound, &mut table, &mut pool)
+}
+
+// The same by a table that is new.
+fn reply_by(
+    alloc: Global,
+    blocks: &mut NumberBlocks<'_>,
+    bound: &BoundQuery,
+    table: &mut GroupTable,
+    pool: &mut SlotPool,
+) -> Result<Bytes, ScanFault>
+    requires text { IsText blocks.old }
+    requires valid { (over : Table) × IsValidQuery over bound.now }
+    requires pooled { IsTableIn table.old pool.old }
+    requires table { IsNew bound.now table.old.most (in_pool table.old pool.old) }
+    requires limits { Limits bound.now most_groups table.old.most }
+    ensures { RepliesToAll (λ whole. Gives blocks.old whole) bound.now result }
+{
+    if group_text(alloc, blocks, bound, table, pool)? {
+        Ok(answer(alloc, bound, table, pool)?)
     } else {
         Err(ScanFault::TooManyGroups(MOST_GROUPS))
     }

@@ -121,5 +121,5 @@ returns g c =
       passes = pass_done query table stored _ _ tt _ a b c.in-Ok.ensures.passes;
     }
 
-pub new-pass-requires-clause-few : goal.new-pass-requires-clause-few
-new-pass-requires-clause-few g c = let few = c.requires.query.few_aggs in omega (arith, few)
+pub new-requires-clause-few : goal.new-requires-clause-few
+new-requires-clause-few g c = let few = c.requires.query.few_aggs in omega (arith, few)
