@@ -27,8 +27,8 @@ returns-in-Ok-verified g c =
       unread = e.unread;
     }
 
-pub returns : goal.returns
-returns g c =
+pub returns-in-Err-verified : goal.returns-in-Err-verified
+returns-in-Err-verified g c =
     let old : Seen = seen g.D.Shelf c.args.depot.now in
     let new : Seen = seen g.D.Shelf c.count_segment.new.depot in
     let e = c.in-Ok.ensures in
