@@ -74,12 +74,16 @@ plain-field part is plain field kind (Some at) first within r lt =
 pub zeros-none : (old : Listed) → Grown 0 old old
 zeros-none old = record { values = []; count = refl; new_is = ap (λ vs. record { are_texts = old.are_texts; values = vs }) (sym (append-nil old.values)) }
 
-pub zeros-more : (rows : ℕ) (old mid new : Listed) (v : Value) → Grown rows old mid → new ≡ pushed mid v → Grown (rows + 1) old new
-zeros-more rows old mid new v g is = record {
-  values = g.values ++ v ∷ [];
-  count = length-append g.values (v ∷ []) ∙ ap (λ n. n + 1) g.count;
-  new_is = is ∙ ap (λ c. pushed c v) g.new_is ∙ ap (λ vs. record { are_texts = old.are_texts; values = vs }) (append_assoc old.values g.values (v ∷ []));
+pub zeros-more : (rows : ℕ) (old mid new : Listed) (added : List Value) → Grown rows old mid → old.are_texts ≡ false → new ≡ record { are_texts = false; values = mid.values ++ added } → Grown (rows + length added) old new
+zeros-more rows old mid new added g sort is = record {
+  values = g.values ++ added;
+  count = length-append g.values added ∙ ap (λ n. n + length added) g.count;
+  new_is = is ∙ ap (λ t. record { are_texts = t; values = mid.values ++ added }) (sym sort) ∙ ap (λ c. record { are_texts = old.are_texts; values = c.values ++ added }) g.new_is ∙ ap (λ vs. record { are_texts = old.are_texts; values = vs }) (append_assoc old.values g.values added);
 }
+
+-- a step of a loop that adds them
+pub zeros-step : (rows left count done : ℕ) (old mid new : Listed) (added : List Value) → done + left ≡ rows → count ≤ left → length added ≡ count → old.are_texts ≡ false → Grown done old mid → new ≡ record { are_texts = false; values = mid.values ++ added } → (x : ℕ) × (x + (left - count) ≡ rows) × Grown x old new
+zeros-step rows left count done old mid new added all within many sort g is = (done + length added, omega (arith, all, within, many), zeros-more done old mid new added g sort is)
 
 -- ---- all columns
 

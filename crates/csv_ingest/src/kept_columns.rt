@@ -14,6 +14,9 @@ use std::alloc::AllocError;
 use table_schema::Field;
 use values::Column;
 
+// Zeros that are added at once.
+const ZEROS: [i64; 256] = [0; 256];
+
 /// Adds the rows of a part at the ends of columns, if each of its cells has a value. Where all
 /// cells are plain, a column that is not kept has other numbers.
 pub fn push_kept(
@@ -115,8 +118,11 @@ fn push_zeros(rows: usize, column: &mut Column) -> Result<(), AllocError>
     requires { column.old.are_texts ≡ false }
     ensures { OnOk result (Grown rows column.old column.new) }
 {
-    'rows: for _i in 0..rows {
-        column.push_whole(0)?;
+    let mut left = rows;
+    'zeros: while left > 0 {
+        let count = left.min(ZEROS.len());
+        column.push_wholes(&ZEROS[..count])?;
+        left -= count;
     }
     Ok(())
 }

@@ -1,5 +1,5 @@
 //! One column.
-ghost use Rattle.std.specs.Prelude.{◌≡◌, ◌<◌, MatchBool, MatchOption, map, true, false, [], length, OnOk, OnErr, IfOk, Some, slice_get};
+ghost use Rattle.std.specs.Prelude.{◌≡◌, ◌<◌, ◌++◌, MatchBool, MatchOption, map, true, false, [], length, OnOk, OnErr, IfOk, Some, slice_get};
 ghost use Rattle.values.specs.declared.value.Value.TheVariants as value;
 ghost use Rattle.std.specs.Str.{is_utf8};
 ghost use Rattle.values.specs.Columns.{is_text, pushed};
@@ -71,6 +71,20 @@ impl Column {
                 numbers.push(number)?;
                 Ok(())
             }
+            Cells::Texts(_) => unreachable!(),
+        }
+    }
+
+    /// Adds numbers at the end, all at once.
+    pub fn push_wholes(&mut self, added: &[i64]) -> Result<(), NoMemory>
+        requires { self.old.are_texts ≡ false }
+        ensures { OnOk result (self.new ≡ record {
+          are_texts = false;
+          values = self.old.values ++ map value.Whole added.now;
+        }) }
+    {
+        match &mut self.cells {
+            Cells::Numbers(numbers) => numbers.extend_from_slice(added),
             Cells::Texts(_) => unreachable!(),
         }
     }
