@@ -26,7 +26,7 @@ less_from order.Less e = refl
 less_from order.Equal e = absurd (false≢true e)
 less_from order.Greater e = absurd (false≢true e)
 
-above_from : (o : Option Value) (v : Value) → is_above o v ≡ true → IfSome o (λ last. value_order last v ≡ order.Less)
+pub above_from : (o : Option Value) (v : Value) → is_above o v ≡ true → IfSome o (λ last. value_order last v ≡ order.Less)
 above_from None v e = tt
 above_from (Some last) v e = less_from (value_order last v) e
 

@@ -25,7 +25,7 @@ extended_twice old mid new a b = (a.0 ++ b.0, b.1 ∙ ap (λ x. x ++ b.0) a.1 �
 pub front_kept : (old new : List ℕ) → IsExtended old new → take (length old) new ≡ old
 front_kept old new h = ap (take (length old)) h.1 ∙ take-append_seam old h.0
 
-numbers-append : (vs ws : List Value) → numbers (vs ++ ws) ≡ numbers vs ++ numbers ws
+pub numbers-append : (vs ws : List Value) → numbers (vs ++ ws) ≡ numbers vs ++ numbers ws
 numbers-append [] ws = refl
 numbers-append (v ∷ vs) ws = ap (λ b. number_bytes v ++ b) (numbers-append vs ws) ∙ sym (append_assoc (number_bytes v) (numbers vs) (numbers ws))
 

@@ -6,7 +6,7 @@ ghost use Rattle.value_ids.specs.Dictionary.{Distinct, IsDictionary, most_values
 ghost use Rattle.dictionary.specs.Spelling.{spelling, counted};
 ghost use Rattle.dictionary.specs.Reading.{IsBody, NoBody, is_above_last, Left, IsNext, NoNext};
 
-use crate::{DictFault, Dictionary, MOST_VALUES, is_in_range, number_of};
+use crate::{DictFault, Dictionary, MOST_VALUES, push_numbers};
 use data_types::{FieldKind, TextPool};
 use std::alloc::Global;
 use value_ids::{ValueList, bytes_at};
@@ -84,37 +84,9 @@ fn read_numbers(
         return Err(DictFault::BadDictionary);
     }
     let mut numbers = Vec::with_capacity(alloc, count)?;
-    let mut rest = body;
-    while let Some((chunk, following)) = rest.split_first_chunk::<8>() {
-        let number = number_of(chunk);
-        if !is_in_range(kind, number) || !is_greater(&numbers, number) {
-            return Err(DictFault::BadDictionary);
-        }
-        keep(&mut numbers, number)?;
-        rest = following;
-    }
-    Ok(numbers)
-}
-
-// Whether a number is greater than the last one, if there is one.
-#[inline(always)]
-fn is_greater(numbers: &[i64], number: i64) -> bool
-    ensures { result ≡ is_above_last (map value.Whole numbers.now) (value.Whole number) }
-{
-    match numbers.last() {
-        None => true,
-        Some(last) => *last < number,
-    }
-}
-
-#[inline(always)]
-fn keep(numbers: &mut Vec<i64>, number: i64) -> Result<(), DictFault>
-    ensures ok { OnOk result (numbers.new.items ≡ numbers.old.items ++ number ∷ []) }
-    ensures err { IfErr result (λ fault. fault ≡ DictFault.NoMemory) }
-{
-    match numbers.push(number) {
-        Ok(()) => Ok(()),
-        Err(_) => Err(DictFault::NoMemory),
+    match push_numbers(kind, body, &mut numbers) {
+        Ok(()) => Ok(numbers),
+        Err(fault) => Err(fault),
     }
 }
 

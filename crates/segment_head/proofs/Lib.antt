@@ -10,3 +10,4 @@ pub mod SectionBytes
 mod Loops
 pub mod FaultLemmas
 pub mod SectionLemmas
+mod PieceLemmas

@@ -31,7 +31,7 @@ use Rattle.segment_file.specs.declared.part.Part.TheVariants as parts
 use Rattle.segment_file.specs.declared.section.Section.{Section}
 use Rattle.segment_file.specs.Bounds.{AreBounds, bounds_of, bounded}
 use Rattle.segment_file.specs.Front.{Extent, Front, bounds_end, extents_from, extents_of, front_size}
-use Rattle.segment_head.specs.Calls.{FailsOpening}
+use Rattle.segment_head.specs.Calls.{FailsOpening, FailsPlace}
 use Rattle.segment_head.specs.Heads.{HasCount, IsHead, IsHeadOf, IsLoaded, IsOpened, IsPartOf, IsPlaced, IsSlotOf, Loads, OfWhole, Seen, placed, with_dictionary}
 use Rattle.segment_file.specs.Rules.{KeepsRules, HasFront, IsFront, IsSpelled, dictionary_in, heads_in, nodes_in, section_bytes}
 use Rattle.segment_file.specs.Reading.{nodes_said, trees_said, IsFrontOf}
@@ -162,12 +162,23 @@ module _ (table : Table) (head : Seen) (column : ℕ) (s : Section) (field : col
       let here : bytes ≡ take s.place.length (drop s.place.offset (bytes_of (Some files) file)) = read ∙ ap (λ f. bytes_at files f s.place.offset s.place.length) t.file_is in
       none t.d (subst (λ b. IsSpelled (kind_at table column) head.rows b t.d) (sym here) t.spelled)
 
+  -- the section spells this dictionary, which is that of the whole head
+  pub place_whole : (held : Option Files) (d : Distinct) → IfSome held (λ files. IsSpelled (kind_at table column) head.rows (section files s.place) d) → OfWhole table held head (λ whole. slice_get whole.dictionaries column ≡ Some (Some d))
+  place_whole None d ours = tt
+  place_whole (Some files) d ours = dictionary_whole (Some files) (section files s.place) d refl ours
+
   -- the file ends before, so there is no whole head
   pub section_cut : (held : Option Files) (count : ℕ) → count ≤ s.place.length → IfSome held (λ files. length (bytes_of (Some files) s.place.file) < s.place.offset + count) → OfWhole table held head (λ whole. ⊥)
   section_cut None count at_most short = tt
   section_cut (Some files) count at_most short = λ name file whole full part.
       let t = there name file (bytes_of (Some files) file) whole full part in
       omega (arith, at_most, short, t.within, ap (λ f. length (bytes_of (Some files) f)) t.file_is)
+
+  -- the section is refused, so there is no whole head
+  pub place_none : (held : Option Files) (p : Part) → FailsPlace (kind_at table column) head.rows column held s.place p → OfWhole table held head (λ whole. ⊥)
+  place_none held p (inl cut) = section_cut held s.place.length (omega arith) cut.1
+  place_none None p (inr bad) = tt
+  place_none (Some files) p (inr bad) = dictionary_none (Some files) (section files s.place) refl bad.1
 
   -- ---- how many values there are
 

@@ -1,8 +1,10 @@
 -- What the calls that read a head, or a part of one, ask, tell, are refused by and read.
 use Rattle.std.specs.Prelude.{◌≡◌, ◌≤◌, ◌<◌, ◌+◌, ◌^◌, ◌⊎◌, ℕ, List, [], length, Option, Some, Result, IfErr, IfOk, IfSome, IsErrOf, slice_get, slice_index_or}
 use Rattle.outside.specs.Files.{EndsBefore, Files, bytes_of}
+use Rattle.outside.specs.declared.place.Place.{Place}
 use Rattle.outside.specs.Seen as outside
 use Rattle.outside.specs.Seen.{OnlyReads}
+use Rattle.data_types.specs.declared.kind.FieldKind.{FieldKind}
 use Rattle.table_schema.specs.ValidTable.{IsValidTable}
 use Rattle.table_schema.specs.declared.table.Table.{Table}
 use Rattle.value_ids.specs.Dictionary.{Distinct}
@@ -113,15 +115,21 @@ pub record ReadsPart {A : Type 0} (P : A → Seen → Type 0) (table : Table) (h
 abbrev pub Names : {A : Type 0} → (Part → Type 0) → Result A HeadFault → Type 0
 Names P result = IfErr result (λ fault. (p : Part) → fault ≡ NotASegment p → P p)
 
--- where the dictionary of a column is loaded: the head, where files are told one that ends before
--- the dictionary does, or the dictionary, whose bytes there are those of none
+-- where a dictionary of a kind is read of a place, in a file of so many rows: the head, where files
+-- are told one that ends before the place does, or the dictionary, whose bytes there are those of
+-- none
+abbrev pub FailsPlace : FieldKind → ℕ → ℕ → Option Files → Place → Part → Type 0
+FailsPlace kind rows column held place p =
+    ((p ≡ Head) × EndsBefore held place.file (place.offset + place.length))
+    ⊎ ((p ≡ Dictionary column) × IfSome held (λ files. (d : Distinct)
+    → ¬ IsSpelled kind rows (section files place) d))
+
+-- where the dictionary of a column is loaded: such a part of the place of its section
 pub record FailsLoading (table : Table) (held : Option Files) (head : Seen) (column : ℕ) (p : Part)
     : Type 0 where
   pub own : Section
   pub at : dictionary_section head column ≡ Some own
-  pub fails : ((p ≡ Head) × EndsBefore held own.place.file (own.place.offset + own.place.length))
-      ⊎ ((p ≡ Dictionary column) × IfSome held (λ files. (d : Distinct)
-      → ¬ IsSpelled (kind_at table column) head.rows (section files own.place) d))
+  pub fails : FailsPlace (kind_at table column) head.rows column held own.place p
 
 -- where the number of values of this column is read: the head, where the file ends too early, or
 -- the column's dictionary

@@ -1,7 +1,8 @@
-pub mod Reading
-pub mod Heads
 pub mod Calls
-pub mod Laws
-pub mod Stored
 pub mod Faults
+pub mod Heads
+pub mod Laws
 pub mod Lookups
+pub mod Pieces
+pub mod Reading
+pub mod Stored

@@ -9,6 +9,7 @@ mod head;
 mod laws;
 mod loading;
 mod lookups;
+mod number_pieces;
 mod opening;
 mod stepwise;
 mod stored;

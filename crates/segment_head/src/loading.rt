@@ -7,11 +7,16 @@ ghost use Rattle.segment_head.specs.Heads.{HasCount, IsHeadOf, IsLoaded, IsPartO
 
 use crate::Head;
 use crate::dictionaries::{check_dictionary, of_dictionary};
+use crate::number_pieces::read_numbers;
+use data_types::FieldKind;
 use dictionary::Dictionary;
 use outside::Shelf;
 use segment_file::{HeadFault, Part, Section, four_at, read_exactly};
 use std::alloc::Global;
 use table_schema::Table;
+
+// A dictionary of so many bytes is read at once.
+const MOST_WHOLE: u64 = 65_536;
 
 impl Head {
     /// Loads the dictionary of a column: its section alone is read, and nothing where it is loaded.
@@ -106,8 +111,37 @@ impl Head {
         Ok(count)
     }
 
-    // The dictionary of a column, read from its section.
+    // The dictionary of a column, read from its section: many numbers piece by piece.
     fn read_dictionary<S: Shelf>(
+        &self,
+        alloc: Global,
+        shelf: &mut S,
+        table: &Table,
+        column: u16,
+    ) -> Result<Dictionary, HeadFault>
+        requires { IsColumnOf table.now self.now column }
+        ensures reads { ReadsPart (λ d whole. slice_get whole.dictionaries column ≡ Some (Some d))
+            table.now self.now (seen S.Shelf shelf.old) (seen S.Shelf shelf.new) result }
+        ensures log { IfSome (dictionary_section self.now column) (λ s.
+            LogsUpTo s.place.file s.place.offset (s.place.offset + s.place.length)
+            (S.log shelf.old) (S.log shelf.new)) }
+        ensures part { Names (FailsLoading table.now (S.held shelf.old) self.now column) result }
+    {
+        let place = &self.dictionary_section(column).place;
+        if place.length <= MOST_WHOLE {
+            return self.read_whole(alloc, shelf, table, column);
+        }
+        let kind = table.schema.fields.as_slice()[column as usize].kind;
+        match kind {
+            FieldKind::Text => self.read_whole(alloc, shelf, table, column),
+            FieldKind::Int | FieldKind::Long => {
+                read_numbers(alloc, shelf, place, kind, self.rows, column)
+            }
+        }
+    }
+
+    // The dictionary of a column, of whose section all bytes are read at once.
+    fn read_whole<S: Shelf>(
         &self,
         alloc: Global,
         shelf: &mut S,
