@@ -1,5 +1,5 @@
 -- Numbers of a place that are read piece by piece.
-use Rattle.std.proofs.Common.{◌≡◌, ◌≢◌, ◌∙◌, ◌<◌, ◌≤◌, ◌+◌, ◌-◌, ◌*◌, ◌^◌, ◌⊎◌, inl, inr, ℕ, List, [], ◌++◌, length, take, drop, Option, Some, None, IfSome, refl, sym, ap, subst, arith, take-add, drop-drop}
+use Rattle.std.proofs.Common.{◌≡◌, ◌≢◌, ◌∙◌, ◌<◌, ◌≤◌, ◌+◌, ◌-◌, ◌*◌, ◌^◌, inl, inr, ℕ, List, [], ◌++◌, length, take, drop, Option, Some, None, IfSome, refl, sym, ap, subst, arith, take-add, drop-drop}
 use Rattle.std.proofs.Math.Seq.{drop-append_seam}
 use Rattle.std.proofs.lemmas.List.{drop-take, length-append, length-take, take-append-drop, take-take, take_all}
 use Rattle.std.specs.List.{All}
@@ -11,7 +11,7 @@ use Rattle.data_types.specs.declared.kind.FieldKind.TheVariants as kind
 use Rattle.values.specs.declared.value.Value.{Value}
 use Rattle.value_ids.specs.Dictionary.{Distinct, Fits, IsDictionary}
 use Rattle.dictionary.specs.Pieces.{AreNumbersOf, NoNumbers}
-use Rattle.dictionary.specs.Spelling.{body, counted, numbers, spelling}
+use Rattle.dictionary.specs.Spelling.{body, counted, numbers}
 use Rattle.dictionary.proofs.Bytes.{counted_once, length-counted}
 use Rattle.dictionary.proofs.Numbers.{body_is_numbers, length-numbers}
 use Rattle.segment_file.specs.Rules.{IsSpelled}

@@ -138,8 +138,8 @@ fn push_pieces<S: Shelf>(
     let mut done = 0;
     'pieces: while done < count {
         let many = MOST_NUMBERS.min(count - done);
-        let at = place.offset + 4 + 8 * u64::from(done);
-        let bytes = match read_exactly(alloc, shelf, file, at, 8 * u64::from(many)) {
+        let at = place.offset + 4 + 8 * done as u64;
+        let bytes = match read_exactly(alloc, shelf, file, at, 8 * many as u64) {
             Ok(bytes) => bytes,
             Err(fault) => return Err(fault),
         };

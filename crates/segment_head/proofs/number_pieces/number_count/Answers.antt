@@ -1,4 +1,4 @@
-use Rattle.std.proofs.Common.{◌≡◌, ◌≤◌, ◌+◌, ◌-◌, ℕ, List, Option, IfSome, inl, inr, arith, refl, subst}
+use Rattle.std.proofs.Common.{◌≡◌, ◌+◌, ◌-◌, ℕ, List, Option, IfSome, inr, arith, refl, subst}
 use Rattle.outside.specs.Files.{bytes_at}
 use Rattle.outside.specs.Reads.{Entry, LogsThrough, LogsUpTo}
 use Rattle.outside.specs.declared.place.Place.{Place}

@@ -1,7 +1,7 @@
-use Rattle.std.proofs.Common.{◌≡◌, ◌∙◌, ◌<◌, ◌≤◌, ◌+◌, ◌-◌, ◌*◌, ◌++◌, ℕ, [], List, Option, IfSome, inl, inr, arith, length, map, sym, ap, subst}
-use Rattle.outside.specs.Files.{Files, bytes_at}
+use Rattle.std.proofs.Common.{◌≡◌, ◌+◌, ◌*◌, ◌++◌, ℕ, List, Option, IfSome, inr, arith, map, ap, subst}
+use Rattle.outside.specs.Files.{bytes_at}
 use Rattle.outside.specs.Reads.{Entry, LogsThrough, LogsUpTo}
-use Rattle.outside.specs.Seen.{OnlyReads, Seen, seen}
+use Rattle.outside.specs.Seen.{Seen, seen}
 use Rattle.outside.specs.declared.place.Place.{Place}
 use Rattle.outside.proofs.ReadLemmas.{LogsThrough-append, LogsThrough-none}
 use Rattle.outside.proofs.SeenLemmas.{reads_after, reads_none}

@@ -1,4 +1,4 @@
-use Rattle.std.proofs.Common.{◌≡◌, ◌≤◌, ◌+◌, List, Option, arith, map, subst}
+use Rattle.std.proofs.Common.{◌+◌, List, Option, map, subst}
 use Rattle.outside.specs.Reads.{Entry}
 use Rattle.outside.specs.declared.place.Place.{Place}
 use Rattle.outside.proofs.ReadLemmas.{LogsThrough-append}

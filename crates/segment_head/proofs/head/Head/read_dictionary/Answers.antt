@@ -1,13 +1,11 @@
-use Rattle.std.proofs.Common.{rules, ◌≡◌, ◌∙◌, ◌<◌, ◌+◌, Some, IfSome, get_or, sym, ap, arith}
+use Rattle.std.proofs.Common.{rules, ◌≡◌, ◌∙◌, ◌+◌, Some, get_or, sym, ap, arith}
 use Rattle.std.specs.Prelude.{slice_get}
-use Rattle.bit_column.specs.Sections.{section}
 use Rattle.segment_file.proofs.Faults.{err_so, ok_so}
 use Rattle.segment_file.proofs.ImageRows.{if_some}
 use Rattle.segment_file.specs.Image.{kind_at}
-use Rattle.segment_file.specs.Rules.{IsSpelled}
 use Rattle.segment_file.specs.declared.fault.HeadFault.TheVariants.{NotASegment}
 use Rattle.segment_file.specs.declared.part.Part.{Part}
-use Rattle.segment_head.specs.Calls.{FailsLoading, FailsPlace}
+use Rattle.segment_head.specs.Calls.{FailsLoading}
 use Rattle.segment_head.specs.Heads.{OfWhole}
 use Rattle.segment_head.proofs.HeadLemmas.{kind_found}
 use Rattle.segment_head.proofs.PieceLemmas.{all_spelled, fails_there}
