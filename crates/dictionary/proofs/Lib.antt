@@ -4,6 +4,7 @@ pub mod KeyLemmas
 pub mod ListedLemmas
 pub mod Numbers
 pub mod OrderLemmas
+pub mod PartLemmas
 pub mod Progress
 pub mod RankLemmas
 pub mod RankedValues

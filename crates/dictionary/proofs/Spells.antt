@@ -1,5 +1,6 @@
 -- Spellings of dictionaries: equal ones are of one dictionary, and what a whole spelling says of its body.
-use Rattle.std.proofs.Common.{◌≡◌, ◌≢◌, ◌∙◌, ◌<◌, ◌≤◌, ◌+◌, ◌*◌, ◌^◌, ℕ, List, [], ◌∷◌, ◌++◌, length, refl, sym, ap, subst, arith}
+use Rattle.std.proofs.Common.{◌≡◌, ◌≢◌, ◌∙◌, ◌<◌, ◌≤◌, ◌+◌, ◌*◌, ◌^◌, ℕ, List, [], ◌∷◌, ◌++◌, drop, length, Ok, Err, refl, sym, ap, subst, arith}
+use Rattle.std.proofs.Math.Seq.{drop-append_seam}
 use Rattle.std.proofs.lemmas.Bool.{false≢true}
 use Rattle.std.proofs.lemmas.List.{append_cancel_left, length-append}
 use Rattle.std.proofs.lemmas.List.Elements.{All-head, All-tail}
@@ -9,8 +10,10 @@ use Rattle.data_types.specs.declared.kind.FieldKind.TheVariants as kind
 use Rattle.values.specs.declared.value.Value.{Value}
 use Rattle.values.specs.declared.value.Value.TheVariants as value
 use Rattle.value_ids.specs.Dictionary.{Distinct, Fits, IsDictionary, most_values}
-use Rattle.dictionary.specs.Reading.{IsBody, NoBody}
+use Rattle.dictionary.specs.Reading.{Checks, IsBody, NoBody}
 use Rattle.dictionary.specs.Spelling.{SpellsOne, body, counted, numbers, offsets, spelling, texts}
+use Rattle.dictionary.specs.declared.fault.DictFault.{DictFault}
+use Rattle.dictionary.specs.declared.fault.DictFault.TheVariants.{BadDictionary}
 use Rattle.dictionary.proofs.Bytes.{counted_following, counted_once, length-counted, same_fronts, same_rests}
 use Rattle.dictionary.proofs.Numbers.{fits_long, length-numbers, no_text, number_front}
 use Rattle.dictionary.proofs.Texts.{length-offsets, offsets_first, offsets_rest}
@@ -100,3 +103,20 @@ pub no_spelling : (k : FieldKind) (count : ℕ) (bytes rest : List ℕ) → coun
 no_spelling k count bytes rest fits' front none d stands is e =
     let same : rest ≡ body d.kind d.values = counted_following count (length d.values) rest (body d.kind d.values) (sym front ∙ e) in
     none d.values (subst (λ x. IsDictionary (record { kind = x; values = d.values })) is stands) (sym (counts count bytes rest d fits' front stands e)) (same ∙ ap (λ x. body x d.values) is)
+
+-- ---- what is found
+
+pub found : (k : FieldKind) (count : ℕ) (bytes rest : List ℕ) (values : List Value) → bytes ≡ counted count ++ rest → IsBody k count rest values → Checks k bytes (Ok (record { kind = k; values = values }))
+found k count bytes rest values front is = record {
+  kind_is = refl;
+  ok = whole_spelled k count bytes rest values front is;
+  bad = tt;
+  valid = is.stands;
+}
+
+pub refused : (k : FieldKind) (bytes : List ℕ) (fault : DictFault) → (fault ≡ BadDictionary → SpellsNone k bytes) → Checks k bytes (Err fault)
+refused k bytes fault none = record { kind_is = tt; ok = tt; bad = none; valid = tt }
+
+-- the bytes after the number of values
+pub rest_is : (count : ℕ) (bytes rest : List ℕ) → bytes ≡ counted count ++ rest → rest ≡ drop 4 bytes
+rest_is count bytes rest is = sym (drop-append_seam (counted count) rest) ∙ ap (λ n. drop n (counted count ++ rest)) (length-counted count) ∙ ap (drop 4) (sym is)

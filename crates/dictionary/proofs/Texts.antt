@@ -1,9 +1,12 @@
 -- The body of a dictionary of texts: an offset for each text and one for the end, and then the texts.
 use Rattle.std.proofs.Common.{◌≡◌, ◌≢◌, ◌∙◌, ◌<◌, ◌≤◌, ◌+◌, ◌-◌, ◌*◌, ◌^◌, ℕ, true, false, List, [], ◌∷◌, ◌++◌, length, take, drop, Option, Some, None, MatchOption, refl, sym, ap, subst, arith, append-nil}
-use Rattle.std.proofs.Math.Seq.{take-append_seam}
+use Rattle.std.proofs.Math.Seq.{drop-append_seam, take-append_seam}
 use Rattle.std.proofs.lemmas.Bool.{false≢true}
 use Rattle.std.proofs.lemmas.List.{append_cancel_left, length-append, take-append-drop}
-use Rattle.std.specs.Str.{IsUtf8}
+use Rattle.std.proofs.lemmas.List.Elements.{All-head, All-tail}
+use Rattle.std.proofs.lemmas.Str.{IsCharBoundary-from_take, IsUtf8-append, IsUtf8-nil}
+use Rattle.std.specs.List.{All}
+use Rattle.std.specs.Str.{IsCharBoundary, IsUtf8}
 use Rattle.data_types.specs.declared.kind.FieldKind.TheVariants as kind
 use Rattle.values.specs.declared.value.Value.{Value}
 use Rattle.values.specs.declared.value.Value.TheVariants as value
@@ -60,18 +63,18 @@ ends_before left n offs near fits is before t more short unicode h = omega (arit
 pub too_long : (left : Left) (n : ℕ) (offs : List ℕ) → left.start ≤ 536870912 → n < 2 ^ 32 → left.offsets ≡ counted n ++ offs → 512 < n - left.start → NoNext left
 too_long left n offs near fits is lengths t more short unicode h = omega (arith, end_is left n offs t more near short fits is h)
 
-pub bytes_end : (left : Left) (n : ℕ) (offs : List ℕ) → left.start ≤ 536870912 → n < 2 ^ 32 → left.offsets ≡ counted n ++ offs → length left.texts < n - left.start → NoNext left
-bytes_end left n offs near fits is at_most t more short unicode h =
-    omega (arith, end_is left n offs t more near short fits is h, ap length h.1, length-append t (texts more))
-
 -- the bytes of the text
 front_is : (left : Left) (n : ℕ) (offs t : List ℕ) (more : List Value) → left.start ≤ 536870912 → length t ≤ 512 → n < 2 ^ 32 → left.offsets ≡ counted n ++ offs → Spells left (value.Text t ∷ more) → take (n - left.start) left.texts ≡ t
 front_is left n offs t more near short fits is h =
     let end : n - left.start ≡ length t = omega (arith, end_is left n offs t more near short fits is h) in
     ap (λ k. take k left.texts) end ∙ ap (take (length t)) h.1 ∙ take-append_seam t (texts more)
 
-pub not_unicode : (left : Left) (n : ℕ) (offs front : List ℕ) → left.start ≤ 536870912 → n < 2 ^ 32 → left.offsets ≡ counted n ++ offs → front ≡ take (n - left.start) left.texts → ¬ (IsUtf8 front) → NoNext left
-not_unicode left n offs front near fits is cut other t more short unicode h = other (subst IsUtf8 (sym (cut ∙ front_is left n offs t more near short fits is h)) unicode)
+-- where no character ends, no text does
+pub no_boundary : (left : Left) (n : ℕ) (offs : List ℕ) → left.start ≤ 536870912 → n < 2 ^ 32 → left.offsets ≡ counted n ++ offs → IsUtf8 left.texts → ¬ (IsCharBoundary left.texts (n - left.start)) → NoNext left
+no_boundary left n offs near fits is whole none t more short unicode h =
+    let end : n - left.start ≡ length t = omega (arith, end_is left n offs t more near short fits is h) in
+    let front : t ≡ take (length t) left.texts = sym (front_is left n offs t more near short fits is h) ∙ ap (λ k. take k left.texts) end in
+    none (subst (IsCharBoundary left.texts) (sym end) (IsCharBoundary-from_take left.texts (length t) whole (omega (arith, ap length h.1, length-append t (texts more))) (subst IsUtf8 front unicode)))
 
 pub next_is : (left : Left) (n : ℕ) (offs text rest : List ℕ) → left.start ≤ 536870912 → n < 2 ^ 32 → left.offsets ≡ counted n ++ offs
     → left.start ≤ n → n - left.start ≤ 512 → length text ≡ n - left.start → text ≡ take (n - left.start) left.texts → rest ≡ drop (n - left.start) left.texts → IsUtf8 text
@@ -83,6 +86,8 @@ next_is left n offs text rest near fits split after short len front back unicode
       short = omega arith;
       unicode = unicode;
       near = omega arith;
+      end = sym end;
+      parts = parts;
       offset = omega (arith, ap length split, length-append (counted n) offs, length-counted n);
       forth = λ more h. (
         ap (λ o. counted left.start ++ o) (split ∙ h.0 ∙ ap (λ m. offsets m more) (sym end)),
@@ -113,6 +118,17 @@ not_from_0 count bytes front offs n cut fits is some all d size e =
 pub from_0 : (count : ℕ) (bytes front offs rest : List ℕ) (n : ℕ) → front ≡ take (4 * count + 4) bytes → rest ≡ drop (4 * count + 4) bytes → front ≡ counted n ++ offs → n ≡ 0 → bytes ≡ (counted 0 ++ offs) ++ rest
 from_0 count bytes front offs rest n cut back split none =
     sym (take-append-drop (4 * count + 4) bytes) ∙ (λ i. (sym cut ∙ split ∙ ap (λ m. counted m ++ offs) none) i ++ sym back i)
+
+-- texts that are UTF-8 are so together
+texts_unicode : (vs : List Value) → All IsUnicode vs → IsUtf8 (texts vs)
+texts_unicode [] all = IsUtf8-nil
+texts_unicode (value.Whole z ∷ vs) all = texts_unicode vs (All-tail IsUnicode (value.Whole z) vs all)
+texts_unicode (value.Text t ∷ vs) all = IsUtf8-append t (texts vs) (All-head IsUnicode (value.Text t) vs all) (texts_unicode vs (All-tail IsUnicode (value.Text t) vs all))
+
+pub not_unicode : (count : ℕ) (bytes rest : List ℕ) → rest ≡ drop (4 * count + 4) bytes → ¬ (IsUtf8 rest) → NoBody kind.Text count bytes
+not_unicode count bytes rest back other all d n e =
+    let long : 4 * count + 4 ≡ length (offsets 0 all) = omega (arith, length-offsets 0 all) in
+    other (subst IsUtf8 (sym (back ∙ ap (λ k. drop k bytes) long ∙ ap (drop (length (offsets 0 all))) e ∙ drop-append_seam (offsets 0 all) (texts all))) (texts_unicode all d.unicode))
 
 -- ---- reading
 

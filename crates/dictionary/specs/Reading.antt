@@ -1,13 +1,25 @@
 -- What the reading of a dictionary's body finds.
-use Rattle.std.specs.Prelude.{◌≡◌, ◌≢◌, ◌≤◌, ◌+◌, ◌-◌, ◌++◌, ℕ, Bool, true, List, ◌∷◌, length, Option, Some, None, slice_get}
+use Rattle.std.specs.Prelude.{◌≡◌, ◌≢◌, ◌≤◌, ◌+◌, ◌-◌, ◌++◌, ℕ, Bool, true, List, ◌∷◌, length, Option, Some, None, Result, IfErr, IfOk, slice_get}
 use Rattle.std.specs.Ordering.{is_lt}
 use Rattle.std.specs.Str.{IsUtf8}
 use Rattle.data_types.specs.declared.kind.FieldKind.{FieldKind}
 use Rattle.values.specs.declared.value.Value.{Value}
 use Rattle.values.specs.declared.value.Value.TheVariants.{Text}
 use Rattle.values.specs.Order.{value_order}
-use Rattle.value_ids.specs.Dictionary.{IsDictionary}
-use Rattle.dictionary.specs.Spelling.{body, counted, offsets, texts}
+use Rattle.value_ids.specs.Dictionary.{Distinct, IsDictionary}
+use Rattle.dictionary.specs.Spelling.{body, counted, offsets, spelling, texts}
+use Rattle.dictionary.specs.declared.fault.DictFault.{DictFault}
+use Rattle.dictionary.specs.declared.fault.DictFault.TheVariants.{BadDictionary}
+
+-- bytes are read as a dictionary of a kind: it is that whose spelling they are, or they are that of
+-- none
+pub record Checks (kind : FieldKind) (bytes : List ℕ) (result : Result Distinct DictFault)
+    : Type 0 where
+  pub kind_is : IfOk result (λ d. d.kind ≡ kind)
+  pub ok : IfOk result (λ d. bytes ≡ spelling d)
+  pub bad : IfErr result (λ fault. fault ≡ BadDictionary → (d : Distinct) → IsDictionary d
+      → d.kind ≡ kind → bytes ≢ spelling d)
+  pub valid : IfOk result IsDictionary
 
 -- the bytes are the body of these values, which are a dictionary
 pub record IsBody (kind : FieldKind) (count : ℕ) (bytes : List ℕ) (values : List Value)
@@ -51,6 +63,8 @@ pub record IsNext (left : Left) (text : List ℕ) (following : Left) : Type 0 wh
   pub short : length text ≤ 512
   pub unicode : IsUtf8 text
   pub near : following.start ≤ left.start + 512
+  pub end : following.start ≡ left.start + length text
+  pub parts : left.texts ≡ text ++ following.texts
   pub offset : length left.offsets ≡ length following.offsets + 4
   pub forth : (more : List Value) → Spells following more → Spells left (Text text ∷ more)
   pub back : (other : List ℕ) (more : List Value) → length other ≤ 512

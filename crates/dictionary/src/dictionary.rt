@@ -12,7 +12,7 @@ ghost use Rattle.value_ids.specs.Lists.{AreNumbers, AreTexts};
 use crate::coded::{Coded, code_column};
 use crate::listing::column_of;
 use crate::matching::matching_ids;
-use data_types::{FieldKind, Seq, TextPool};
+use data_types::{FieldKind, Seq};
 use std::alloc::Global;
 use std::marker::Model;
 use value_ids::{AscendingValues, Cut, IdSet, ValueList, cut_at};
@@ -118,13 +118,18 @@ impl Dictionary {
         self.values.as_numbers()
     }
 
-    /// The texts by their ids, if the values are no numbers.
-    pub fn texts(&self) -> Option<&TextPool>
+    /// The text of an id, if the values are no numbers.
+    pub fn text_at(&self, id: u32) -> Option<&str>
+        requires { id < length self.now.values }
         ensures { MatchOption result
             (AreNumbers self.now.values)
-            (λ texts. self.now.values ≡ map value.Text texts.now) }
+            (λ text. slice_get self.now.values id ≡ Some (value.Text text.now)) }
     {
-        self.values.as_texts()
+        let text = self.values.text_at(id as usize)?;
+        match str::from_utf8(text) {
+            Ok(text) => Some(text),
+            Err(_) => unreachable!(),
+        }
     }
 
     // The values, which ascend.

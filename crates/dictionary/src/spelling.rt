@@ -9,7 +9,7 @@ ghost use Rattle.dictionary.specs.Spelling.{IsExtended, numbers, number_bytes, o
 
 use crate::Dictionary;
 use data_types::FieldKind;
-use value_ids::{ValueList, bytes_at};
+use value_ids::ValueList;
 use values::NoMemory;
 
 impl Dictionary {
@@ -114,8 +114,8 @@ fn text_at(values: &ValueList, at: usize) -> &[u8]
     ensures text { result.now ≡ text_bytes (get_or values.now at (value.Whole (pos 0))) }
     ensures short { length result.now ≤ 512 }
 {
-    match values.as_texts() {
-        Some(texts) => bytes_at(texts, at),
+    match values.text_at(at) {
+        Some(text) => text,
         None => &[],
     }
 }

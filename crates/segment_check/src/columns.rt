@@ -45,8 +45,8 @@ fn push_value(
     ensures { OnOk result (column.new
         ≡ pushed column.old (get_or dictionary.now.values id (value.Whole (pos 0)))) }
 {
-    match dictionary.texts() {
-        Some(texts) => column.push_text(texts.text(id as usize)),
+    match dictionary.text_at(id) {
+        Some(text) => column.push_text(text),
         None => column.push(&dictionary.value_at(alloc, id)?),
     }
 }

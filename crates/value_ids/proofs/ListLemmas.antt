@@ -1,6 +1,7 @@
 -- Values of one sort, by the numbers or texts that they are.
-use Rattle.std.proofs.Common.{◌≡◌, ◌∙◌, ◌<◌, [], ℕ, ℤ, pos, List, length, map, get_or, ap, arith}
+use Rattle.std.proofs.Common.{◌≡◌, ◌∙◌, ◌<◌, [], ℕ, ℤ, pos, List, Some, length, map, get_or, slice_get, ap, arith}
 use Rattle.std.proofs.lemmas.List.{get_or-map, length-map}
+use Rattle.std.proofs.lemmas.Option.{get_or_from_slice_get}
 use Rattle.std.specs.Cmp.Lexicographic.{slice_cmp}
 use Rattle.std.specs.Ordering.{nat_cmp}
 use Rattle.std.specs.declared.cmp.Ordering.TheVariants as order
@@ -23,5 +24,5 @@ number_before vs numbers at d bound t is within text = (λ i. value_order (numbe
 pub text_after : (vs : List Value) (texts : List (List ℕ)) (at : ℕ) (d bound : Value) (n : ℤ) → vs ≡ map Text texts → at < length vs → bound ≡ Whole n → value_order (get_or vs at d) bound ≡ order.Greater
 text_after vs texts at d bound n is within whole = (λ i. value_order (text_at vs texts at d is within i) (whole i))
 
-pub texts_compared : (vs : List Value) (texts : List (List ℕ)) (at : ℕ) (d bound : Value) (s t : List ℕ) → vs ≡ map Text texts → at < length vs → get_or texts at [] ≡ s → bound ≡ Text t → value_order (get_or vs at d) bound ≡ slice_cmp nat_cmp s t
-texts_compared vs texts at d bound s t is within own text = (λ i. value_order ((text_at vs texts at d is within ∙ ap Text own) i) (text i))
+pub texts_compared : (vs : List Value) (at : ℕ) (d bound : Value) (s t : List ℕ) → slice_get vs at ≡ Some (Text s) → bound ≡ Text t → value_order (get_or vs at d) bound ≡ slice_cmp nat_cmp s t
+texts_compared vs at d bound s t own text = (λ i. value_order (get_or_from_slice_get vs at (Text s) d own i) (text i))

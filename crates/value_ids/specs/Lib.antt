@@ -1,3 +1,4 @@
+pub mod Blocks
 pub mod Coding
 pub mod Dictionary
 pub mod Ids

@@ -7,10 +7,12 @@ mod id_set;
 mod id_sets;
 mod mask;
 mod ranks;
+mod text_block;
 mod value_list;
 
 pub use cuts::{AscendingValues, Cut, compared, cut_at};
 pub use id_set::IdSet;
 pub use id_sets::{complement_of, intersection_of, range_of, set_of, union_of};
 pub use ranks::rank_places;
-pub use value_list::{ValueList, bytes_at};
+pub use text_block::{TextBlock, TextPart};
+pub use value_list::ValueList;

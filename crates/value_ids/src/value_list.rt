@@ -1,10 +1,12 @@
 //! Values that are all numbers, or all texts in one block of bytes.
-ghost use Rattle.std.specs.Prelude.{◌≡◌, ◌<◌, IfOk, MatchOption, Some, get_or, length, map, slice_get};
+ghost use Rattle.std.specs.Prelude.{◌≡◌, ◌<◌, IfOk, IfSome, MatchOption, Some, get_or, length, map, slice_get, true};
+ghost use Rattle.std.specs.Str.{is_utf8};
 ghost use Rattle.values.specs.Order.{value_order};
 ghost use Rattle.values.specs.declared.value.Value as spec;
 ghost use Rattle.values.specs.declared.value.Value.TheVariants as value;
 ghost use Rattle.value_ids.specs.Lists.{AreNumbers, AreTexts};
 
+use crate::TextBlock;
 use data_types::{Name, TextPool};
 use std::alloc::Global;
 use std::cmp::Ordering;
@@ -16,6 +18,7 @@ use values::{NoMemory, Value};
 enum Cells {
     Numbers(Vec<i64>),
     Texts(TextPool),
+    Block(TextBlock),
 }
 
 /// A list of values, which are all numbers, or all texts in one block of bytes.
@@ -53,12 +56,22 @@ impl ValueList {
         }
     }
 
+    /// These texts, in the bytes that they were read in.
+    pub fn of_block(texts: TextBlock) -> Self
+        ensures { result ≡ map value.Text texts }
+    {
+        ValueList {
+            cells: Cells::Block(texts),
+        }
+    }
+
     pub fn len(&self) -> usize
         ensures { result ≡ length self.now }
     {
         match &self.cells {
             Cells::Numbers(numbers) => numbers.len(),
             Cells::Texts(texts) => texts.len(),
+            Cells::Block(texts) => texts.len(),
         }
     }
 
@@ -71,18 +84,23 @@ impl ValueList {
         match &self.cells {
             Cells::Numbers(numbers) => Some(numbers.as_slice()),
             Cells::Texts(_) => None,
+            Cells::Block(_) => None,
         }
     }
 
-    /// The texts, if they are no numbers.
-    pub fn as_texts(&self) -> Option<&TextPool>
-        ensures { MatchOption result
+    /// The bytes of the text at a place, if it is no number.
+    #[inline(always)]
+    pub fn text_at(&self, at: usize) -> Option<&[u8]>
+        requires { at < length self.now }
+        ensures place { MatchOption result
             (AreNumbers self.now)
-            (λ texts. self.now ≡ map value.Text texts.now) }
+            (λ text. slice_get self.now at ≡ Some (value.Text text.now)) }
+        ensures text { IfSome result (λ text. is_utf8 text.now ≡ true) }
     {
         match &self.cells {
             Cells::Numbers(_) => None,
-            Cells::Texts(texts) => Some(texts),
+            Cells::Texts(texts) => texts.get(at),
+            Cells::Block(texts) => texts.get(at),
         }
     }
 
@@ -94,6 +112,7 @@ impl ValueList {
         match &self.cells {
             Cells::Numbers(numbers) => Ok(Value::Whole(numbers[at])),
             Cells::Texts(texts) => Ok(Value::Text(Name::from_text(alloc, texts.text(at))?)),
+            Cells::Block(texts) => Ok(Value::Text(Name::from_text(alloc, texts.text(at))?)),
         }
     }
 
@@ -103,23 +122,16 @@ impl ValueList {
         requires { at < length self.now }
         ensures { (d : spec.Value) → value_order (get_or self.now at d) bound.now ≡ result }
     {
-        match (&self.cells, bound) {
-            (Cells::Numbers(numbers), Value::Whole(number)) => numbers[at].cmp(number),
-            (Cells::Numbers(_), Value::Text(_)) => Ordering::Less,
-            (Cells::Texts(_), Value::Whole(_)) => Ordering::Greater,
-            (Cells::Texts(texts), Value::Text(text)) => bytes_at(texts, at).cmp(text.as_slice()),
+        match bound {
+            Value::Whole(number) => match &self.cells {
+                Cells::Numbers(numbers) => numbers[at].cmp(number),
+                Cells::Texts(_) => Ordering::Greater,
+                Cells::Block(_) => Ordering::Greater,
+            },
+            Value::Text(text) => match self.text_at(at) {
+                Some(own) => own.cmp(text.as_slice()),
+                None => Ordering::Less,
+            },
         }
-    }
-}
-
-/// The bytes of the text at a place.
-#[inline(always)]
-pub fn bytes_at(texts: &TextPool, at: usize) -> &[u8]
-    requires { at < length texts.now }
-    ensures { slice_get texts.now at ≡ Some result.now }
-{
-    match texts.get(at) {
-        Some(bytes) => bytes,
-        None => unreachable!(),
     }
 }

@@ -1,8 +1,7 @@
-use Rattle.std.proofs.Common.{◌∙◌, ap, map, subst, Option}
+use Rattle.std.proofs.Common.{subst, Option}
 use Rattle.std.specs.List.Sorted.{IsStrictlySortedBy}
 use Rattle.std.specs.Option.{IfSome}
 use Rattle.std.specs.Ordering.{int_cmp}
-use Rattle.values.specs.declared.value.Value.TheVariants.{Whole}
 use Rattle.dictionary.specs.declared.number_index.CodedNumbers.{CodedNumbers}
 use Rattle.dictionary.specs.Coded.{SeesNumbers}
 use Rattle.dictionary.proofs.RankedValues.{number_ascending}

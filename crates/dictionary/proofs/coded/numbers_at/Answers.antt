@@ -1,4 +1,4 @@
-use Rattle.std.proofs.Common.{◌∙◌, ◌++◌, ◌∷◌, [], ℕ, get_or, pos, take, ap, arith}
+use Rattle.std.proofs.Common.{◌∙◌, ◌++◌, ◌∷◌, [], ℕ, get_or, pos, ap, arith}
 use Rattle.std.proofs.lemmas.List.{take_all}
 use Rattle.dictionary.specs.Ranking.{at_places}
 use Rattle.dictionary.proofs.RankLemmas.{map_more}

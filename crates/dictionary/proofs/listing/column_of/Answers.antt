@@ -1,5 +1,4 @@
 use Rattle.std.proofs.Common.{◌∙◌, ap}
-use Rattle.std.proofs.lemmas.List.{take_all}
 use Rattle.dictionary.proofs.SortLemmas.{next_put, next_suits}
 use Rattle.dictionary.proofs.listing.column_of.Goals as goal
 

@@ -1,5 +1,4 @@
-use Rattle.std.proofs.Common.{◌≡◌, ◌∙◌, List, ap}
-use Rattle.values.specs.declared.value.Value.{Value}
+use Rattle.std.proofs.Common.{◌∙◌, ap}
 use Rattle.value_ids.specs.Dictionary.{distinct}
 use Rattle.value_ids.proofs.DistinctLemmas.{members_so, stands_so}
 use Rattle.dictionary.proofs.dictionary.Dictionary.build.Goals as goal
