@@ -1,5 +1,7 @@
 //! The dictionaries of a segment's file.
-ghost use Rattle.std.specs.Prelude.{◌≡◌, ◌≤◌, ◌+◌, ◌++◌, ◌∷◌, [], length, IfOk, IfErr, OnOk, IsErrOf, ℕ};
+ghost use Rattle.std.specs.Prelude.{◌≡◌, ◌≤◌, ◌+◌, ◌++◌, ◌∷◌, [], List, length, IfOk, IfErr, OnOk, IsErrOf, ℕ};
+ghost use Rattle.data_types.specs.declared.kind.FieldKind.{FieldKind};
+ghost use Rattle.dictionary.specs.Reading.{Checks};
 ghost use Rattle.value_ids.specs.Dictionary.{Distinct};
 ghost use Rattle.segment_file.specs.Parts.{columns_of};
 ghost use Rattle.segment_head.specs.Reading.{StopsAt, bytes_of_section, heads_read};
@@ -26,7 +28,32 @@ pub(crate) fn check_dictionary(
     ensures bad { IsErrOf result DictFault.BadDictionary →
         (d : Distinct) → ¬ IsSpelled kind rows bytes.now d }
 {
-    let dictionary = match Dictionary::check(alloc, kind, bytes) {
+    of_rows(Dictionary::check(alloc, kind, bytes), rows)
+}
+
+/// The same of bytes that are given away: a dictionary of texts keeps them.
+pub(crate) fn take_dictionary(
+    alloc: Global,
+    kind: FieldKind,
+    rows: u32,
+    bytes: Vec<u8>,
+) -> Result<Dictionary, DictFault>
+    ensures ok { IfOk result (IsSpelled kind rows bytes.items) }
+    ensures bad { IsErrOf result DictFault.BadDictionary →
+        (d : Distinct) → ¬ IsSpelled kind rows bytes.items d }
+{
+    of_rows(Dictionary::of_bytes(alloc, kind, bytes), rows)
+}
+
+// The dictionary that was read, if a file of so many rows may have it.
+fn of_rows(read: Result<Dictionary, DictFault>, rows: u32) -> Result<Dictionary, DictFault>
+    ensures ok { IfOk result (λ d. (kind : FieldKind) (bytes : List ℕ) → Checks kind bytes read →
+        IsSpelled kind rows bytes d) }
+    ensures bad { IsErrOf result DictFault.BadDictionary →
+        (kind : FieldKind) (bytes : List ℕ) → Checks kind bytes read →
+        (d : Distinct) → ¬ IsSpelled kind rows bytes d }
+{
+    let dictionary = match read {
         Ok(dictionary) => dictionary,
         Err(fault) => return Err(fault),
     };

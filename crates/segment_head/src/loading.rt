@@ -6,7 +6,7 @@ ghost use Rattle.segment_head.specs.Calls.{FailsLoading, IsColumnOf, IsCountPart
 ghost use Rattle.segment_head.specs.Heads.{HasCount, IsHeadOf, IsLoaded, IsPartOf, Loads, dictionary_section, with_dictionary};
 
 use crate::Head;
-use crate::dictionaries::{check_dictionary, of_dictionary};
+use crate::dictionaries::{of_dictionary, take_dictionary};
 use crate::number_pieces::read_numbers;
 use data_types::FieldKind;
 use dictionary::Dictionary;
@@ -163,7 +163,7 @@ impl Head {
             Err(fault) => return Err(fault),
         };
         let kind = table.schema.fields.as_slice()[column as usize].kind;
-        match check_dictionary(alloc, kind, self.rows, bytes.as_slice()) {
+        match take_dictionary(alloc, kind, self.rows, bytes.into_vec()) {
             Ok(dictionary) => Ok(dictionary),
             Err(fault) => Err(of_dictionary(fault, column)),
         }

@@ -1,16 +1,14 @@
-use Rattle.std.proofs.Common.{◌≡◌, ◌∙◌, length, sym, ap, arith}
-use Rattle.dictionary.proofs.Spells.{spells_one}
-use Rattle.value_ids.specs.Dictionary.{Distinct}
+use Rattle.dictionary.specs.Reading.{Checks}
+use Rattle.segment_file.proofs.Faults.{ok_so}
+use Rattle.segment_file.specs.Rules.{IsSpelled}
 use Rattle.segment_head.proofs.dictionaries.check_dictionary.Goals as goal
 
-pub returns-then-count-rows-clause-bad : goal.returns-then-count-rows-clause-bad
-returns-then-count-rows-clause-bad c = λ _ d is.
-    let ours : Distinct = c.in-Ok.dictionary in
-    let same : ours ≡ d = spells_one ours d c.in-Ok.ensures.valid is.stands (c.in-Ok.ensures.kind ∙ sym is.kind_is) (sym c.in-Ok.ensures.ok ∙ is.spelled) in
-    omega (arith, is.at_most, c.count-count.ensures.count, ap (λ x. length x.values) same, c.if-count-rows.true)
+pub returns-clause-ok : goal.returns-clause-ok
+returns-clause-ok c =
+    let checks : Checks c.args.kind c.args.bytes.now c.check.result = record { kind_is = c.check.ensures.kind; ok = c.check.ensures.ok; bad = c.check.ensures.bad; valid = c.check.ensures.valid } in
+    ok_so _ (IsSpelled c.args.kind c.args.rows c.args.bytes.now) c.of_rows.result (λ d is. is c.args.kind c.args.bytes.now checks) c.of_rows.ensures.ok
 
-pub returns-then-rows-gt0-clause-bad : goal.returns-then-rows-gt0-clause-bad
-returns-then-rows-gt0-clause-bad c = λ _ d is.
-    let ours : Distinct = c.in-Ok.dictionary in
-    let same : ours ≡ d = spells_one ours d c.in-Ok.ensures.valid is.stands (c.in-Ok.ensures.kind ∙ sym is.kind_is) (sym c.in-Ok.ensures.ok ∙ is.spelled) in
-    omega (arith, is.some c.if-rows-gt0.true, c.count-count.ensures.count, ap (λ x. length x.values) same, c.if-count-eq0.true)
+pub returns-clause-bad : goal.returns-clause-bad
+returns-clause-bad c =
+    let checks : Checks c.args.kind c.args.bytes.now c.check.result = record { kind_is = c.check.ensures.kind; ok = c.check.ensures.ok; bad = c.check.ensures.bad; valid = c.check.ensures.valid } in
+    λ is. c.of_rows.ensures.bad is c.args.kind c.args.bytes.now checks

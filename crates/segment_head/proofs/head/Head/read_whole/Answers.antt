@@ -41,33 +41,33 @@ returns-in-Err-clause-log g c =
     if_some _ s _ c.dictionary_section.ensures
     (subst (λ f. LogsUpTo f s.place.offset (s.place.offset + s.place.length) (g.S.Shelf.log c.args.shelf.now) (g.S.Shelf.log c.read_exactly.new.shelf)) c.as_str-file.ensures c.in-Err.ensures.log_of_fault)
 
-pub returns-in-Ok-check_dictionary-clause-reads : goal.returns-in-Ok-check_dictionary-clause-reads
-returns-in-Ok-check_dictionary-clause-reads g c = record {
+pub returns-in-Ok-take_dictionary-clause-reads : goal.returns-in-Ok-take_dictionary-clause-reads
+returns-in-Ok-take_dictionary-clause-reads g c = record {
   told = let s = c.dictionary_section.result.now in
       let table = c.args.table.now in
       let held = g.S.Shelf.held c.args.shelf.now in
       let column = c.args.column in
       let f = c.index-as_slice-column.result in
-      let d = c.in-Ok-check_dictionary.dictionary in
+      let d = c.in-Ok-take_dictionary.dictionary in
       let kind : (get_or c.as_slice.result.now column f).kind ≡ kind_at table column =
       ap (λ x. x.kind) (sym c.index-as_slice-column.is) ∙ sym (kind_found table column f c.requires.column (c.index-as_slice-column.is ∙ ap (λ fs. get_or fs column f) c.as_slice.ensures)) in
       dictionary_whole table c.args.self.now column s c.requires.column c.dictionary_section.ensures held c.in-Ok.bytes d
       (subst (λ n. IfSome held (λ files. c.in-Ok.bytes ≡ bytes_at files n s.place.offset s.place.length)) c.as_str-file.ensures c.in-Ok.ensures.bytes)
-      (spelled_there _ _ _ _ _ _ d kind (ap (λ h. h.rows) c.self.view_is) c.as_slice-2.ensures c.in-Ok-check_dictionary.ensures.ok);
+      (spelled_there _ _ _ _ _ _ d kind (ap (λ h. h.rows) c.self.view_is) c.into_vec.ensures c.in-Ok-take_dictionary.ensures.ok);
   refused = tt;
   only_reads = let old = seen g.S.Shelf c.args.shelf.now in
       let new = seen g.S.Shelf c.read_exactly.new.shelf in
-      reads_ended c.in-Ok-check_dictionary.dictionary old new (reads_well c.in-Ok.bytes old new c.in-Ok.ensures.only_reads);
+      reads_ended c.in-Ok-take_dictionary.dictionary old new (reads_well c.in-Ok.bytes old new c.in-Ok.ensures.only_reads);
 }
 
-pub returns-in-Ok-check_dictionary-clause-log : goal.returns-in-Ok-check_dictionary-clause-log
-returns-in-Ok-check_dictionary-clause-log g c =
+pub returns-in-Ok-take_dictionary-clause-log : goal.returns-in-Ok-take_dictionary-clause-log
+returns-in-Ok-take_dictionary-clause-log g c =
     let s = c.dictionary_section.result.now in
     if_some _ s _ c.dictionary_section.ensures
     (s.place.offset + s.place.length, omega arith, subst (λ f. LogsThrough f s.place.offset (s.place.offset + s.place.length) (g.S.Shelf.log c.args.shelf.now) (g.S.Shelf.log c.read_exactly.new.shelf)) c.as_str-file.ensures c.in-Ok.ensures.log)
 
-pub returns-clause-reads : goal.returns-clause-reads
-returns-clause-reads g c = record {
+pub returns-in-Err-take_dictionary-clause-reads : goal.returns-in-Err-take_dictionary-clause-reads
+returns-in-Err-take_dictionary-clause-reads g c = record {
   told = tt;
   refused = λ p is.
       let s = c.dictionary_section.result.now in
@@ -79,15 +79,15 @@ returns-clause-reads g c = record {
       ap (λ x. x.kind) (sym c.index-as_slice-column.is) ∙ sym (kind_found table column f c.requires.column (c.index-as_slice-column.is ∙ ap (λ fs. get_or fs column f) c.as_slice.ensures)) in
       dictionary_none table c.args.self.now column s c.requires.column c.dictionary_section.ensures held c.in-Ok.bytes
       (subst (λ n. IfSome held (λ files. c.in-Ok.bytes ≡ bytes_at files n s.place.offset s.place.length)) c.as_str-file.ensures c.in-Ok.ensures.bytes)
-      (λ d spelled. c.in-Err-check_dictionary.ensures.bad (ap Err (bad_fault c.in-Err-check_dictionary.fault c.of_dictionary.result p c.of_dictionary.ensures.memory is)) d
-      (spelled_there _ _ _ _ _ _ d (sym kind) (sym (ap (λ h. h.rows) c.self.view_is)) (sym c.as_slice-2.ensures) spelled));
+      (λ d spelled. c.in-Err-take_dictionary.ensures.bad (ap Err (bad_fault c.in-Err-take_dictionary.fault c.of_dictionary.result p c.of_dictionary.ensures.memory is)) d
+      (spelled_there _ _ _ _ _ _ d (sym kind) (sym (ap (λ h. h.rows) c.self.view_is)) (sym c.into_vec.ensures) spelled));
   only_reads = let old = seen g.S.Shelf c.args.shelf.now in
       let new = seen g.S.Shelf c.read_exactly.new.shelf in
       reads_other c.of_dictionary.result old new c.of_dictionary.ensures.read (reads_well c.in-Ok.bytes old new c.in-Ok.ensures.only_reads);
 }
 
-pub returns-clause-log : goal.returns-clause-log
-returns-clause-log g c =
+pub returns-in-Err-take_dictionary-clause-log : goal.returns-in-Err-take_dictionary-clause-log
+returns-in-Err-take_dictionary-clause-log g c =
     let s = c.dictionary_section.result.now in
     if_some _ s _ c.dictionary_section.ensures
     (s.place.offset + s.place.length, omega arith, subst (λ f. LogsThrough f s.place.offset (s.place.offset + s.place.length) (g.S.Shelf.log c.args.shelf.now) (g.S.Shelf.log c.read_exactly.new.shelf)) c.as_str-file.ensures c.in-Ok.ensures.log)
@@ -104,11 +104,11 @@ returns-in-Err-clause-part g c = λ p is.
       );
     }
 
-pub returns-in-Ok-check_dictionary-clause-part : goal.returns-in-Ok-check_dictionary-clause-part
-returns-in-Ok-check_dictionary-clause-part g c = tt
+pub returns-in-Ok-take_dictionary-clause-part : goal.returns-in-Ok-take_dictionary-clause-part
+returns-in-Ok-take_dictionary-clause-part g c = tt
 
-pub returns-clause-part : goal.returns-clause-part
-returns-clause-part g c = λ p is.
+pub returns-in-Err-take_dictionary-clause-part : goal.returns-in-Err-take_dictionary-clause-part
+returns-in-Err-take_dictionary-clause-part g c = λ p is.
     let s = c.dictionary_section.result.now in
     let table = c.args.table.now in
     let held = g.S.Shelf.held c.args.shelf.now in
@@ -116,7 +116,7 @@ returns-clause-part g c = λ p is.
     let f = c.index-as_slice-column.result in
     let kind : (get_or c.as_slice.result.now column f).kind ≡ kind_at table column =
     ap (λ x. x.kind) (sym c.index-as_slice-column.is) ∙ sym (kind_found table column f c.requires.column (c.index-as_slice-column.is ∙ ap (λ fs. get_or fs column f) c.as_slice.ensures)) in
-    let bad = bad_fault c.in-Err-check_dictionary.fault c.of_dictionary.result p c.of_dictionary.ensures.memory is in
+    let bad = bad_fault c.in-Err-take_dictionary.fault c.of_dictionary.result p c.of_dictionary.ensures.memory is in
     let named = c.of_dictionary.ensures.bad bad in
     record {
       own = s;
@@ -125,7 +125,7 @@ returns-clause-part g c = λ p is.
         (let same : p ≡ Dictionary column = cc in same),
         none_there held (kind_at table column) c.args.self.now.rows c.in-Ok.bytes s.place
             (subst (λ n. IfSome held (λ files. c.in-Ok.bytes ≡ bytes_at files n s.place.offset s.place.length)) c.as_str-file.ensures c.in-Ok.ensures.bytes)
-            (λ d spelled. c.in-Err-check_dictionary.ensures.bad (ap Err bad) d
-            (spelled_there _ _ _ _ _ _ d (sym kind) (sym (ap (λ h. h.rows) c.self.view_is)) (sym c.as_slice-2.ensures) spelled)),
+            (λ d spelled. c.in-Err-take_dictionary.ensures.bad (ap Err bad) d
+            (spelled_there _ _ _ _ _ _ d (sym kind) (sym (ap (λ h. h.rows) c.self.view_is)) (sym c.into_vec.ensures) spelled)),
       );
     }
