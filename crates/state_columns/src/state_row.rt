@@ -101,6 +101,13 @@ impl StateRow {
         Ok(())
     }
 
+    /// Takes all states out. The room stays, so that as many can be pushed without more.
+    pub fn clear(&mut self)
+        ensures { self.new ≡ [] }
+    {
+        self.states.clear();
+    }
+
     /// The same states once more.
     pub fn copy(&self, alloc: Global) -> Result<StateRow, NoMemory>
         ensures { IfOk result (λ row. row ≡ self.now) }
