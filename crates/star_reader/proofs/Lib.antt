@@ -3,3 +3,4 @@ pub mod TakeSteps
 pub mod PassSteps
 pub mod FaultSteps
 pub mod ReadSteps
+pub mod TestSteps

@@ -3,6 +3,7 @@ use Rattle.outside.specs.Seen.{seen}
 use Rattle.outside.proofs.ReadLemmas.{on-err}
 use Rattle.outside.proofs.SeenLemmas.{reads_after}
 use Rattle.star_table.specs.declared.star_table.StarTable.{StarTable}
+use Rattle.star_file.specs.declared.spelled_docs.SpelledDocs.{SpelledDocs}
 use Rattle.star_file.specs.declared.docs_fault.DocsFault.{DocsFault}
 use Rattle.star_file.specs.declared.docs_fault.DocsFault.TheVariants as docs
 use Rattle.star_walk.specs.declared.pick.Pick.{Pick}
@@ -36,7 +37,7 @@ returns-in-Err-clause-bad g c is =
     steps.read_bad c.args.tree.now c.args.task.now c.args.asked.now c.args.rows c.args.picks.now
     c.loop-pick.pick-index none first now c.loop-pick.selected.table c.loop-pick-test.true
     c.loop-pick.invariant
-    (c.in-Err.ensures.bad (faults.bad_too StarTable StarTable c.in-Err.fault c.of_docs.result
+    (c.in-Err.ensures.bad (faults.bad_too SpelledDocs StarTable c.in-Err.fault c.of_docs.result
     c.of_docs.ensures is))
 
 pub returns-in_err-take_passing-clause-log_of_fault :
@@ -66,7 +67,7 @@ returns-then-not-branch-clause-only_reads g c =
     let now = seen g.S.Shelf c.loop-pick.shelf in
     let next = seen g.S.Shelf c.read_docs.new.shelf in
     faults.reads_refused StarTable BadDocs first next tt (reads_after ⊥ first now next
-    c.loop-pick.invariant.reads (faults.reads_well StarTable DocsFault c.in-Ok.table docs.ReadFault
+    c.loop-pick.invariant.reads (faults.reads_well SpelledDocs DocsFault c.in-Ok.table docs.ReadFault
     now next c.in-Ok.ensures.only_reads))
 
 pub returns-then-not-branch-clause-log_of_fault : goal.returns-then-not-branch-clause-log_of_fault
@@ -87,6 +88,6 @@ loop-pick-preserved g c =
     steps.picked_next c.args.tree.now c.args.task.now c.args.asked.now c.args.rows c.args.picks.now
     c.loop-pick.pick-index none first now c.loop-pick.selected.table c.loop-pick-test.true
     c.loop-pick.invariant next c.take_passing.new.self.table c.in-Ok.table.docs
-    (faults.reads_well StarTable DocsFault c.in-Ok.table docs.ReadFault now next
+    (faults.reads_well SpelledDocs DocsFault c.in-Ok.table docs.ReadFault now next
     c.in-Ok.ensures.only_reads) c.in-Ok.ensures.log c.in-Ok.ensures.docs c.in-Ok.ensures.number
     selected.0 selected.1

@@ -2,8 +2,8 @@ use Rattle.std.proofs.Common.{◌≡◌, ◌<◌, ◌-◌, length, sym, ap, ◌�
 use Rattle.state_columns.specs.Docs.{doc_at}
 use Rattle.star_tree.specs.Picks.{holds_from}
 use Rattle.star_walk.specs.Walking.{task_of, passes}
-use Rattle.star_walk.proofs.TestSteps.{test_passed, test_failed, tests_done}
-use Rattle.star_walk.proofs.testing.passes_from.Goals as goal
+use Rattle.star_reader.proofs.TestSteps.{test_passed, test_failed, tests_done}
+use Rattle.star_reader.proofs.testing.passes_from.Goals as goal
 
 pub loop-dim-preserved : goal.loop-dim-preserved
 loop-dim-preserved c =

@@ -2,7 +2,7 @@ use Rattle.std.proofs.Common.{◌≡◌, ◌-◌, length}
 use Rattle.state_columns.specs.Docs.{doc_at}
 use Rattle.star_tree.specs.Picks.{holds_from}
 use Rattle.star_walk.specs.Walking.{task_of}
-use Rattle.star_walk.proofs.testing.passes_from.Given as goal
+use Rattle.star_reader.proofs.testing.passes_from.Given as goal
 
 abbrev pub invariant-loop-dim : goal.invariant-loop-dim
 invariant-loop-dim l =

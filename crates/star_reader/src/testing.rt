@@ -5,11 +5,11 @@ ghost use Rattle.state_columns.specs.Docs.{doc_at};
 ghost use Rattle.star_tree.specs.Picks.{holds_from};
 ghost use Rattle.star_walk.specs.Walking.{task_of};
 
-use crate::task::Task;
-use star_table::StarTable;
+use star_file::SpelledDocs;
+use star_walk::Task;
 
 /// Whether a document passes the tests of its dimensions from a level on.
-pub fn passes_from(task: &Task, table: &StarTable, at: u32, level: usize) -> bool
+pub(crate) fn passes_from(task: &Task, table: &SpelledDocs<'_>, at: u32, level: usize) -> bool
     requires at_most { length task.now.matched ≤ 16 }
     requires dims { table.now.dims ≡ length task.now.matched }
     requires level { level ≤ length task.now.matched }
