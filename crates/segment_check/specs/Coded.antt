@@ -18,6 +18,8 @@ use Rattle.segment_check.specs.Reading.{AreColumns, FailsColumn, HasIdsOf, IsCol
 -- a column was read by its ids, or its forward index has no such ids
 pub record ReadsCodedColumn (head : Seen) (column : ℕ) (old new : outside.Seen)
     (result : Result CodedColumn HeadFault) : Type 0 where
+  pub own : IfOk result (λ c.
+      slice_get head.dictionaries column ≡ Some (Some c.dictionary.now))
   pub coded : IfOk result (IsCodedColumn head.rows)
   pub column_is : IfOk result (λ c. (d : Distinct)
       → slice_get head.dictionaries column ≡ Some (Some d)

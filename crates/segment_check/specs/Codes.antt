@@ -29,22 +29,6 @@ HaveAll count ids = (id : ℕ) → id < count → Contains ids id
 abbrev pub AreMarked : List Bool → ℕ → ℕ → Type 0
 AreMarked marks from to = (at : ℕ) → from ≤ at → at < to → get_or marks at false ≡ true
 
--- the ids of the rows in a column were read, or its forward index has none for some row
-pub record ReadsIds (head : Seen) (column : ℕ) (old new : outside.Seen)
-    (result : Result (Vec ℕ Global) HeadFault) : Type 0 where
-  pub count : IfOk result (λ ids. length ids.items ≡ head.rows)
-  pub below : IfOk result (λ ids. (d : Distinct)
-      → slice_get head.dictionaries column ≡ Some (Some d)
-      → AreBelow (length d.values) ids.items)
-  pub column_is : IfOk result (λ ids. (d : Distinct)
-      → slice_get head.dictionaries column ≡ Some (Some d)
-      → IsColumn old.held head column d (values_at d.values ids.items))
-  pub refused : IfErr result (λ fault. (p : Part) → fault ≡ NotASegment p
-      → (p ≡ parts.Forward column) × ((d : Distinct)
-      → slice_get head.dictionaries column ≡ Some (Some d)
-      → IfSome old.held (λ files. ¬ HasIdsOf files head column (length d.values))))
-  pub only_reads : OnlyReads (IsErrOf result ReadFault) old new
-
 -- the values of a dictionary that rows with these ids have, and no others, with the rows' ids
 pub record CodesRows (kind : FieldKind) (d : Distinct) (ids : List ℕ) (c : CodedColumn)
     : Type 0 where

@@ -14,7 +14,7 @@ mod publishing;
 mod segments;
 mod table_file;
 
-pub use checking::{check_segment, count_segment, spell_segment};
+pub use checking::{count_segment, spell_segment};
 pub use create::{create_table, has_table};
 pub use dropping::drop_segment;
 pub use fault::StoreFault;

@@ -3,7 +3,6 @@ use Rattle.outside.specs.Seen.{seen}
 use Rattle.outside.proofs.SeenLemmas.{reads_so}
 use Rattle.bit_column.specs.Column.{width_of}
 use Rattle.bit_column.specs.Sections.{AppendsRange, Readable, section}
-use Rattle.csv_text.specs.Coded.{ids_of}
 use Rattle.value_ids.specs.Coding.{AreBelow, values_at}
 use Rattle.segment_file.specs.declared.part.Part.TheVariants as parts
 use Rattle.segment_build.specs.FileReads.{LogsFile, file_up}
@@ -21,17 +20,18 @@ returns-in-Ok-clause-reads g c =
     let own = c.dictionary-dictionary.result.now in
     let count = c.count.result in
     let kept = c.in-Ok.ids in
-    let e : AppendsRange old.held place (width_of count) count 0 head.rows [] (ids_of kept) =
-    subst (λ rows. AppendsRange old.held place (width_of count) count 0 rows [] (ids_of kept)) c.rows.ensures c.in-Ok.ensures.ids in
+    let e : AppendsRange old.held place (width_of count) count 0 head.rows [] kept =
+    subst (λ rows. AppendsRange old.held place (width_of count) count 0 rows [] kept) c.rows.ensures c.in-Ok.ensures.ids in
     let below : AreBelow (length own.values) e.ids = subst (λ n. AreBelow n e.ids) c.count.ensures.count e.below in
     let many : length e.ids ≡ head.rows = omega (arith, e.number) in
     record {
+      own = c.dictionary-dictionary.ensures;
       coded = record {
         count = ap length e.appended ∙ many;
         below = subst (AreBelow (length own.values)) (sym e.appended) below;
       };
       column_is = λ d asked.
-          column_made old.held head column place own d (width_of count) count e.ids (values_at own.values (ids_of kept)) c.in-Some.ensures c.dictionary-dictionary.ensures asked c.count.ensures.count refl e.number e.below e.told
+          column_made old.held head column place own d (width_of count) count e.ids (values_at own.values kept) c.in-Some.ensures c.dictionary-dictionary.ensures asked c.count.ensures.count refl e.number e.below e.told
           (ap (values_at own.values) e.appended);
       refused = tt;
       only_reads = reads_so _ _ old new (λ err. absurd cc) (λ err. absurd cc) c.in-Ok.ensures.reads.only_reads;
@@ -48,6 +48,7 @@ returns-in-Err-BadId-clause-reads g c =
     let count = c.count.result in
     let bad = c.in-Err-BadId.ensures.reads.bad (ap Err c.in-Err-BadId.field-0-is) in
     record {
+      own = tt;
       coded = tt;
       column_is = tt;
       refused = λ p is. (
