@@ -201,8 +201,12 @@ rest shape xs ys old mid new a b = record {
       ∙ ap (λ s. join_some merged_rows s (states_for shape ys q)) (sym (a.each q));
 }
 
+-- rows that have the same aggregates at each key are added alike
+pub alike_adds : (shape : Shape) (xs ys : List (List Value)) (old new : Groups) → ((q : List Value) → states_for shape xs q ≡ states_for shape ys q) → Adds shape xs old new → Adds shape ys old new
+alike_adds shape xs ys old new same a = record { each = λ q. a.each q ∙ ap (join_some merged_rows (finite.get old q)) (same q) }
+
 pub permuted_adds : (shape : Shape) (xs ys : List (List Value)) (old new : Groups) → IsPermutation xs ys → Adds shape xs old new → Adds shape ys old new
-permuted_adds shape xs ys old new h a = record { each = λ q. a.each q ∙ ap (join_some merged_rows (finite.get old q)) (for_permuted shape xs ys q h) }
+permuted_adds shape xs ys old new h a = alike_adds shape xs ys old new (λ q. for_permuted shape xs ys q h) a
 
 pub from_none : (shape : Shape) (rows : List (List Value)) (new : Groups) → Adds shape rows (groups_of shape []) new → new ≡ groups_of shape rows
 from_none shape rows new a = one shape rows (groups_of shape []) new (groups_of shape rows) a (of_both shape [] rows)

@@ -156,15 +156,24 @@ adds_both query n m xs ys old mid new a b = record {
     regroup k n m = omega arith
 
 -- too many groups already are too many with more rows
+pub overfull_more : (query : BoundQuery) (xs ys : List (List Value)) (t : KeptGroups) → IsOverfull query xs t → IsOverfull query (xs ++ ys) t
+overfull_more query xs ys t over g all =
+    let shape = shape_of query in
+    let with_xs = some shape xs (groups_in t) in
+    let here : t.most < finite.len with_xs.0 = over with_xs.0 with_xs.1 in
+    let more : finite.len with_xs.0 ≤ finite.len g = no_fewer shape ys with_xs.0 g (rest shape xs ys (groups_in t) with_xs.0 g with_xs.1 all) in
+    omega (arith, here, more)
+
+-- too many after some rows are too many with these
+pub overfull_past : (query : BoundQuery) (xs ys : List (List Value)) (old mid : KeptGroups) → Adds (shape_of query) xs (groups_in old) (groups_in mid)
+    → mid.most ≡ old.most → IsOverfull query ys mid → IsOverfull query (xs ++ ys) old
+overfull_past query xs ys old mid adds most over g all =
+    subst (λ m. m < finite.len g) most (over g (rest (shape_of query) xs ys (groups_in old) (groups_in mid) g adds all))
+
 pub overfull_later : (query : BoundQuery) (n : ℕ) (xs ys zs : List (List Value)) (old mid : KeptGroups) → AddsRows query n xs old mid
     → IsOverfull query ys mid → IsOverfull query (xs ++ (ys ++ zs)) old
-overfull_later query n xs ys zs old mid a over g all =
-    let shape = shape_of query in
-    let left : Adds shape (ys ++ zs) (groups_in mid) g = rest shape xs (ys ++ zs) (groups_in old) (groups_in mid) g a.groups all in
-    let with_ys = some shape ys (groups_in mid) in
-    let here : mid.most < finite.len with_ys.0 = over with_ys.0 with_ys.1 in
-    let more : finite.len with_ys.0 ≤ finite.len g = no_fewer shape zs with_ys.0 g (rest shape ys zs (groups_in mid) with_ys.0 g with_ys.1 left) in
-    subst (λ m. m < finite.len g) a.most (omega (arith, here, more))
+overfull_later query n xs ys zs old mid a over =
+    overfull_past query xs (ys ++ zs) old mid a.groups a.most (overfull_more query ys zs mid over)
 
 -- ---- the rows of a list, one after the other
 
