@@ -8,6 +8,7 @@ mod checking;
 mod create;
 mod dropping;
 mod fault;
+mod keeping;
 mod laws;
 mod open;
 mod publishing;
@@ -18,9 +19,11 @@ pub use checking::{check_segment, count_segment, spell_segment};
 pub use create::{create_table, has_table};
 pub use dropping::drop_segment;
 pub use fault::StoreFault;
+pub use keeping::{is_kept_name, keep_segment, remove_kept};
 pub use laws::{
-    create_stands_law, drop_stands_law, empty_stands_law, names_count_law, names_stand_law,
-    one_state_law, segment_stands_law, table_stands_law,
+    create_stands_law, drop_stands_law, empty_stands_law, kept_idle_law, kept_stay_law,
+    names_count_law, names_stand_law, one_state_law, replace_stands_law, segment_stands_law,
+    table_stands_law,
 };
 pub use open::open_table;
 pub use publishing::publish_segment;
