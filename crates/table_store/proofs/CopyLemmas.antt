@@ -10,13 +10,15 @@ use Rattle.outside.specs.Files.{Files, IsLengthOf, Lacks, SameBut, bytes_at, byt
 use Rattle.outside.specs.Seen.{OnlyReads, OnlyWrites, Seen}
 use Rattle.outside.specs.declared.depot.DepotFault.{DepotFault}
 use Rattle.outside.specs.declared.depot.DepotFault.TheVariants.{Failed}
-use Rattle.segment_build.specs.FileReads.{LogsFile, file_then, file_unread}
+use Rattle.segment_build.specs.FileReads.{LogsFile, file_then, file_through, file_unread}
 use Rattle.segment_build.specs.FileLaws.{again, get_put, same_but, same_but_new, same_but_then, same_name}
 use Rattle.segment_build.specs.Publishing.{incoming}
 use Rattle.table_store.specs.Calls.{CopiesFile}
 use Rattle.table_store.specs.Copies.{IsCopied, IsGrown}
 use Rattle.table_store.proofs.NameLemmas.{tied_name}
-use Rattle.outside.proofs.ReadLemmas.{there}
+use Rattle.outside.proofs.ReadLemmas.{LogsFilled-through, there}
+use Rattle.outside.proofs.SeenLemmas.{reads_so}
+use Rattle.outside.specs.Reads.{LogsFilled}
 
 -- ---- files by their names
 
@@ -135,6 +137,18 @@ grown_but bytes (Err fault) a b e = e.unknown
 
 pub of_append : (bytes : List ℕ) (r : Result (Unit {0}) DepotFault) (a b : Seen) → AppendsToPart incoming bytes r a b → OnlyWrites (IsErrOf r Failed) incoming a b
 of_append bytes r a b e = record { parts = grown_but bytes r a b e; log = e.writes.log; reads = e.writes.reads; later = e.writes.later; rose = e.writes.rose; unchanged = e.writes.unchanged }
+
+-- a write whose outcome is known
+pub writes_as : (file : List ℕ) (r : Result (Unit {0}) DepotFault) (R W : Type 0) (a b : Seen) → ¬ R → W ↔ IsErrOf r Failed → OnlyWrites (IsErrOf r Failed) incoming a b → CopiesFile file R W a b
+writes_as file r R W a b unread w is = copies_so file R (IsErrOf r Failed) R W a b (λ x. x, λ x. x) (w.1, w.0) (of_writes file R (IsErrOf r Failed) a b unread is)
+
+-- a read, and then a write of what it gave
+pub piece_moved : (file bytes : List ℕ) (from to end : ℕ) (r : Result (Unit {0}) DepotFault) (F R W : Type 0) (a b d : Seen) → ¬ F → OnlyReads F a b → LogsFilled file from to end a.log b.log → AppendsToPart incoming bytes r b d → ¬ R → W ↔ IsErrOf r Failed
+    → CopiesFile file R W a d
+piece_moved file bytes from to end r F R W a b d fine reads log appends unread w =
+    copies_after file R W a b d
+    (of_reads file ⊥ ⊥ a b (λ none. none) (reads_so F ⊥ a b (λ none. absurd none) (λ fails. absurd (fine fails)) reads) (file_through file from to a.log b.log (LogsFilled-through file from to end a.log b.log log)))
+    (writes_as file r R W b d unread w (of_append bytes r b d appends))
 
 -- ---- a file, a piece after the other
 
