@@ -4,14 +4,14 @@ use Rattle.std.proofs.lemmas.List.{drop-drop, drop_all}
 use Rattle.std.proofs.lemmas.Cmp.{nat_list_cmp_total}
 use Rattle.std.specs.FinMap as map
 use Rattle.std.specs.Ordering.{eq_by_cmp}
-use Rattle.outside.specs.Calls.{AppendsToPart, BeginsPart}
+use Rattle.outside.specs.Calls.{AppendsToPart, BeginsPart, PublishesPart}
 use Rattle.outside.specs.Counts.{Rose}
 use Rattle.outside.specs.Files.{Files, IsLengthOf, Lacks, SameBut, bytes_at, bytes_of, name_order, with_file, without_file}
 use Rattle.outside.specs.Seen.{OnlyReads, OnlyWrites, Seen}
 use Rattle.outside.specs.declared.depot.DepotFault.{DepotFault}
 use Rattle.outside.specs.declared.depot.DepotFault.TheVariants.{Failed}
 use Rattle.segment_build.specs.FileReads.{LogsFile, file_then, file_through, file_unread}
-use Rattle.segment_build.specs.FileLaws.{again, get_put, same_but, same_but_new, same_but_then, same_name}
+use Rattle.segment_build.specs.FileLaws.{after_publish, again, get_put, same_but, same_but_new, same_but_then, same_name}
 use Rattle.segment_build.specs.Publishing.{incoming}
 use Rattle.table_store.specs.Calls.{CopiesFile}
 use Rattle.table_store.specs.Copies.{IsCopied, IsGrown}
@@ -149,6 +149,23 @@ piece_moved file bytes from to end r F R W a b d fine reads log appends unread w
     copies_after file R W a b d
     (of_reads file ⊥ ⊥ a b (λ none. none) (reads_so F ⊥ a b (λ none. absurd none) (λ fails. absurd (fine fails)) reads) (file_through file from to a.log b.log (LogsFilled-through file from to end a.log b.log log)))
     (writes_as file r R W b d unread w (of_append bytes r b d appends))
+
+-- a look alone
+pub looked_first : (file : List ℕ) (F : Type 0) (a b : Seen) → ¬ F → OnlyReads F a b → b.log ≡ a.log → CopiesFile file ⊥ ⊥ a b
+looked_first file F a b fine reads log =
+    of_reads file ⊥ ⊥ a b (λ none. none) (reads_so F ⊥ a b (λ none. absurd none) (λ fails. absurd (fine fails)) reads) (file_unread file a.log b.log log)
+
+-- the part is published
+of_publish : (name : List ℕ) (r : Result (Unit {0}) DepotFault) (a b : Seen) → PublishesPart incoming name r a b → OnlyWrites (IsErrOf r Failed) incoming a b
+of_publish name r a b e = record { parts = after_publish r incoming a.parts b.parts e.gone e.unknown; log = e.writes.log; reads = e.writes.reads; later = e.writes.later; rose = e.writes.rose; unchanged = e.writes.unchanged }
+
+-- a look, a copy that ended well, and then the part was published
+pub published_after : (file name : List ℕ) (r : Result (Unit {0}) DepotFault) (F R0 W0 R W : Type 0) (a b d e : Seen) → ¬ F → ¬ R0 → ¬ W0 → OnlyReads F a b → b.log ≡ a.log → CopiesFile file R0 W0 b d → PublishesPart incoming name r d e → ¬ R → W ↔ IsErrOf r Failed
+    → CopiesFile file R W a e
+published_after file name r F R0 W0 R W a b d e fine no_read no_write reads log copies publishes unread w =
+    copies_after file R W a b e (looked_first file F a b fine reads log)
+    (copies_after file R W b d e (copies_so file R0 W0 ⊥ ⊥ b d ((λ x. no_read x), (λ none. absurd none)) ((λ x. no_write x), (λ none. absurd none)) copies)
+    (writes_as file r R W d e unread w (of_publish name r d e publishes)))
 
 -- ---- a file, a piece after the other
 

@@ -1,7 +1,7 @@
 //! The table of a store: its file, which is made of two texts, and why a call on a store is
 //! refused. The segments of a store by their names, and whether there is a place for one more. The
 //! state that the files of a store stand for: its table is opened, and segments are put in, looked
-//! at whole, and dropped.
+//! at whole, replaced and dropped. The file of a segment that is still read is kept meanwhile.
 #![tactic(auto)]
 
 mod checking;
@@ -26,7 +26,7 @@ pub use laws::{
     table_stands_law,
 };
 pub use open::open_table;
-pub use publishing::publish_segment;
+pub use publishing::{publish_segment, replace_segment};
 pub use segment_check::check_columns;
 pub use segment_file::Part;
 pub use segments::{MOST_SEGMENTS, find_room, holds_segment, segment_names};
