@@ -95,3 +95,16 @@ pub record OnlyPublishes (FailsToRead FailsToWrite : Type 0) (old new : Seen) : 
   pub writes_later : old.write_faults ≤ new.write_faults
   pub write_failed : FailsToWrite → Rose old.write_faults new.write_faults
   pub writes_still : ¬ FailsToWrite → new.write_faults ≡ old.write_faults
+
+-- what a call that reads one file, and writes the part that files are published by, leaves of the
+-- rest of a depot; each count of faults rose just where the call failed so
+pub record CopiesFile (file : List ℕ) (FailsToRead FailsToWrite : Type 0) (old new : Seen) : Type 0
+  where
+    pub parts : SameBut incoming old.parts new.parts
+    pub log : LogsFile file old.log new.log
+    pub reads_later : old.read_faults ≤ new.read_faults
+    pub read_failed : FailsToRead → Rose old.read_faults new.read_faults
+    pub reads_still : ¬ FailsToRead → new.read_faults ≡ old.read_faults
+    pub writes_later : old.write_faults ≤ new.write_faults
+    pub write_failed : FailsToWrite → Rose old.write_faults new.write_faults
+    pub writes_still : ¬ FailsToWrite → new.write_faults ≡ old.write_faults
