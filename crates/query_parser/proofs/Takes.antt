@@ -1,5 +1,5 @@
 -- A symbol of a query that was read took a token.
-use Rattle.std.proofs.Common.{◌≡◌, ℕ, suc, ◌-◌, ◌≤◌, ◌<◌, Bool, true, false, cond, length, Option, Some, None, Result, Ok, Err, refl, ap, ◌∙◌, arith}
+use Rattle.std.proofs.Common.{◌≡◌, ℕ, suc, ◌-◌, ◌<◌, Bool, true, false, cond, length, Some, None, Result, Ok, Err, refl, ap, ◌∙◌, arith}
 use Rattle.query_tokens.specs.declared.token.Kind.{Kind}
 use Rattle.query_tokens.specs.declared.token.Kind.TheVariants as k
 use Rattle.query_tokens.specs.declared.fault.QueryFault.{QueryFault}
