@@ -66,21 +66,22 @@ fn put_rows(
 {
     let mut end = text.len();
     'rows: for row in 0..rows {
-        if row == FIRST_ROWS {
-            make_room(rows - row, text);
-        }
+        make_room(row, rows, text);
         end = put_row(columns, cells, row, text, end)?;
     }
     Ok(end)
 }
 
-// Makes room at once for so many rows more, as long as the first ones are. Where there is none, a
-// text grows by and by.
-fn make_room(rows: usize, text: &mut Vec<u8>)
+// Makes room at once for all rows after the first ones, as long as these are, where it comes to
+// them. Where there is none, a text grows by and by.
+#[inline(always)]
+fn make_room(row: usize, rows: usize, text: &mut Vec<u8>)
     ensures { text.new.items ≡ text.old.items }
 {
-    let each = text.len() / FIRST_ROWS + 1;
-    let _ = text.reserve(each.saturating_mul(rows));
+    if row == FIRST_ROWS {
+        let each = text.len() / FIRST_ROWS + 1;
+        let _ = text.reserve(each.saturating_mul(rows));
+    }
 }
 
 // Puts the record of a row at the end of a text, and answers where it ends then.

@@ -159,7 +159,14 @@ pub(crate) fn column_sections(
     let mut ids = Vec::new(alloc);
     'columns: for at in 0..count {
         let indexes = indexes_at(&table.settings, at);
-        push_column(alloc, &coded.columns[at], order, indexes, &mut ids, &mut sections)?;
+        push_column(
+            alloc,
+            &coded.columns[at],
+            order,
+            indexes,
+            &mut ids,
+            &mut sections,
+        )?;
     }
     Ok(sections)
 }

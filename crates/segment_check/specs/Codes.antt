@@ -19,7 +19,7 @@ use Rattle.segment_build.specs.declared.coded.CodedColumns.{CodedColumns}
 use Rattle.segment_build.specs.Coded.{AreCoded, IsCoding, columns_in, dictionary_of_ids, row_values}
 use Rattle.segment_build.specs.FileReads.{LogsFile}
 use Rattle.segment_check.specs.declared.head.FileHead.{FileHead}
-use Rattle.segment_check.specs.Reading.{AreColumns, AreOfFields, FailsColumn, HasIdsOf, IsColumn, IsSomeHead}
+use Rattle.segment_check.specs.Reading.{AreColumns, AreOfFields, FailsColumn, HasIdsOf, IsColumn, IsSomeHead, LogsColumns}
 
 -- each id below a number is one of these
 abbrev pub HaveAll : ℕ → List ℕ → Type 0
@@ -62,6 +62,7 @@ pub record ReadsAllCodes (table : Table) (head : Seen) (old new : outside.Seen)
       → (column : ℕ) × (p ≡ parts.Forward column) × FailsColumn table old.held head column)
   pub only_reads : OnlyReads (IsErrOf result ReadFault) old new
   pub log : (file : List ℕ) → AreIn file head.sections → LogsFile file old.log new.log
+  pub once : LogsColumns table head old.log new.log
 
 -- the front of a file of the table, and columns of rows of it
 pub record MayCompare (table : Table) (name : List ℕ) (head : FileHead) (coded : CodedColumns)

@@ -8,7 +8,7 @@ ghost use Rattle.segment_file.specs.declared.part.Part.TheVariants as part;
 ghost use Rattle.segment_build.specs.FileReads.{LogsFile};
 ghost use Rattle.segment_head.specs.Heads.{AreIn, IsLoaded, place_in};
 ghost use Rattle.segment_check.specs.Coded.{ReadsCoded, ReadsCodedColumn};
-ghost use Rattle.segment_check.specs.Reading.{IsSomeHead};
+ghost use Rattle.segment_check.specs.Reading.{IsSomeHead, LogsColumn};
 
 use crate::head::FileHead;
 use bit_column::{ColumnFault, IdRange, Width, append_narrow, append_range, width_for};
@@ -68,6 +68,7 @@ pub(crate) fn read_coded_column<'a, S: Shelf>(
         (seen S.Shelf shelf.old) (seen S.Shelf shelf.new) result }
     ensures log { (file : List ℕ) → AreIn file head.now.sections
         → LogsFile file (S.log shelf.old) (S.log shelf.new) }
+    ensures once { LogsColumn head.now column (S.log shelf.old) (S.log shelf.new) }
 {
     let Some(place) = head.place(Part::Forward(column)) else {
         unreachable!();

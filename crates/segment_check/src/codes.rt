@@ -11,7 +11,7 @@ ghost use Rattle.segment_build.specs.Coded.{AreCoded, columns_in};
 ghost use Rattle.segment_build.specs.FileReads.{LogsFile};
 ghost use Rattle.segment_head.specs.Heads.{AreIn, IsLoaded, place_in};
 ghost use Rattle.segment_check.specs.Codes.{AreMarked, CodesRows, HaveAll, ReadsAllCodes, ReadsCodes};
-ghost use Rattle.segment_check.specs.Reading.{IsSomeHead};
+ghost use Rattle.segment_check.specs.Reading.{IsSomeHead, LogsColumn};
 
 use crate::coded::read_coded_column;
 use crate::columns::column_of;
@@ -79,6 +79,7 @@ fn read_column_codes<'a, S: Shelf>(
         (seen S.Shelf shelf.old) (seen S.Shelf shelf.new) result }
     ensures log { (file : List ℕ) → AreIn file head.now.sections
         → LogsFile file (S.log shelf.old) (S.log shelf.new) }
+    ensures once { LogsColumn head.now column (S.log shelf.old) (S.log shelf.new) }
 {
     match read_coded_column(alloc, shelf, head, column) {
         Ok(csv_text::CodedColumn { dictionary, ids }) => Ok(codes_of(alloc, kind, dictionary, ids)?),
