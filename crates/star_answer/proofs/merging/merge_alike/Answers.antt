@@ -9,7 +9,7 @@ use Rattle.group_table.specs.Kept.{groups_in}
 use Rattle.scan_engine.proofs.AddLemmas.{at_most_more}
 use Rattle.star_answer.proofs.MergeSteps as steps
 use Rattle.group_table.specs.Pooled.{in_pool}
-use Rattle.star_answer.proofs.merging.merge_documents.Goals as goal
+use Rattle.star_answer.proofs.merging.merge_alike.Goals as goal
 
 pub merge_last-requires-clause-at_most : goal.merge_last-requires-clause-at_most
 merge_last-requires-clause-at_most c =

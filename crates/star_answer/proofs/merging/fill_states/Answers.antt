@@ -6,7 +6,7 @@ use Rattle.agg_laws.specs.declared.states.AggState.{AggState}
 use Rattle.state_columns.specs.Docs.{doc_at}
 use Rattle.state_columns.proofs.RowPlaces.{length-kinds_of}
 use Rattle.state_columns.proofs.RegionSteps.{shape_at}
-use Rattle.star_answer.proofs.merging.states_at.Goals as goal
+use Rattle.star_answer.proofs.merging.fill_states.Goals as goal
 
 pub overflow_cast-pair : goal.overflow_cast-pair
 overflow_cast-pair c =
