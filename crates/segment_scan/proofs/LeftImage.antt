@@ -23,7 +23,6 @@ use Rattle.table_schema.specs.ValidTable.{IsValidTable}
 use Rattle.table_schema.specs.Conditions.{all_hold, conjunct_holds}
 use Rattle.doc_lists.specs.Docs.{has_doc}
 use Rattle.group_table.proofs.GroupsLemmas.{permuted_adds as permuted_groups}
-
 use Rattle.group_table.specs.Kept.{KeptGroups, groups_in}
 use Rattle.group_table.specs.Shape.{shape_of}
 use Rattle.scan_engine.specs.Places.{rows_at}
