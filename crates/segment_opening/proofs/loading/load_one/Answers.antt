@@ -6,7 +6,7 @@ use Rattle.segment_head.specs.declared.fault.EngineFault.TheVariants as engine
 use Rattle.segment_head.proofs.FaultLemmas.{bad_head, never_full, read_head}
 use Rattle.segment_opening.proofs.HeadLemmas.{dictionary_log, grows_one, unread_none}
 use Rattle.segment_reads.proofs.LogLemmas.{reads_as}
-use Rattle.segment_opening.proofs.loading.load_if.Goals as goal
+use Rattle.segment_opening.proofs.loading.load_one.Goals as goal
 
 pub returns-in-Ok-clause-loads : goal.returns-in-Ok-clause-loads
 returns-in-Ok-clause-loads g c = record {
