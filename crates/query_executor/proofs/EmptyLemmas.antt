@@ -1,5 +1,5 @@
 -- A segment with a column that is left without a value adds nothing, and its plan says so.
-use Rattle.std.proofs.Common.{◌≡◌, ◌∙◌, ◌+◌, ◌==◌, ◌||◌, ◌++◌, inr, ℕ, false, cond, List, [], Option, Some, None, IfSome, refl, sym, ap, subst, arith, append-nil}
+use Rattle.std.proofs.Common.{◌≡◌, ◌∙◌, ◌+◌, ◌==◌, ◌||◌, inr, ℕ, false, cond, List, [], Option, Some, None, IfSome, refl, sym, ap, subst, arith}
 use Rattle.std.specs.List.{list_any}
 use Rattle.outside.specs.Files.{Files}
 use Rattle.values.specs.declared.value.Value.{Value}

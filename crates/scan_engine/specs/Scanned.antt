@@ -1,5 +1,5 @@
 -- The groups of a query over rows, of which more and more are added.
-use Rattle.std.specs.Prelude.{◌≡◌, ◌≤◌, ◌+◌, ◌-◌, ◌<◌, ◌++◌, ℕ, Bool, List, [], filter, cond, IfSome, ◌∷◌, Result, Err, OnOk}
+use Rattle.std.specs.Prelude.{◌≡◌, ◌≤◌, ◌+◌, ◌-◌, ◌<◌, ℕ, Bool, List, [], filter, cond, IfSome, ◌∷◌, Result, Err, OnOk}
 use Rattle.std.specs.FinMap as finite
 use Rattle.values.specs.declared.value.Value.{Value}
 use Rattle.agg_laws.specs.Numbers.{most_values}

@@ -1,5 +1,5 @@
 -- Rows that agree in the columns that a query names are the same to it.
-use Rattle.std.proofs.Common.{◌≡◌, ◌∙◌, ◌<◌, ◌==◌, ◌||◌, ◌&&◌, ◌++◌, ◌∷◌, [], ℕ, pos, Bool, true, false, cond, Option, Some, None, List, map, refl, sym, ap, subst, eq-eqb}
+use Rattle.std.proofs.Common.{◌≡◌, ◌∙◌, ◌==◌, ◌||◌, ◌&&◌, ◌∷◌, [], ℕ, pos, Bool, true, false, cond, Option, Some, None, List, map, refl, sym, ap, subst, eq-eqb}
 use Rattle.std.specs.List.{filter, list_any}
 use Rattle.std.specs.Option.{option_map_or}
 use Rattle.std.specs.Ordering.{eq_by_cmp}

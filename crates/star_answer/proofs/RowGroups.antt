@@ -1,22 +1,16 @@
 -- The aggregates of rows beside those of their documents.
-use Rattle.std.proofs.Common.{◌≡◌, ◌∙◌, ℕ, ◌<◌, Bool, true, false, cond, ◌||◌}
-use Rattle.std.proofs.Common.{List, [], ◌∷◌, ◌++◌, Option, Some, None, length, get_or, map, refl, sym}
-use Rattle.std.proofs.Common.{ap, append-nil}
-use Rattle.std.specs.List.{filter, list_any}
+use Rattle.std.proofs.Common.{◌≡◌, ◌∙◌, ℕ, ◌<◌}
+use Rattle.std.proofs.Common.{List, [], ◌∷◌, Some, length, get_or, map, refl}
+use Rattle.std.proofs.Common.{ap}
 use Rattle.std.specs.Option.{option_map}
-use Rattle.std.specs.Ordering.{eq_by_cmp}
-use Rattle.std.specs.FinMap as finite
 use Rattle.std.proofs.lemmas.List.{get_or-map}
-use Rattle.std.proofs.lemmas.List.Elements.{All-head, All-tail, filter-append}
+use Rattle.std.proofs.lemmas.List.Elements.{All-head, All-tail}
 use Rattle.values.specs.declared.value.Value.{Value}
 use Rattle.agg_laws.specs.declared.states.AggState.{AggState}
 use Rattle.agg_laws.specs.declared.states.AggState.TheVariants.{Count}
 use Rattle.state_columns.specs.Docs as docs
-use Rattle.agg_laws.specs.Merged.{join_some}
-use Rattle.agg_laws.specs.Rows.{head_of, merged_rows, row_of, tail_of}
+use Rattle.agg_laws.specs.Rows.{head_of, row_of, tail_of}
 use Rattle.agg_laws.specs.States.{state_of}
-use Rattle.state_columns.proofs.DocLemmas.{rows_join}
-use Rattle.state_columns.proofs.MergedLemmas.{join_none}
 use Rattle.table_schema.specs.declared.query.Agg.{Agg}
 use Rattle.group_table.specs.Groups.{number_for, some_states, states_of}
 

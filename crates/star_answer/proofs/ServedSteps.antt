@@ -40,13 +40,12 @@ use Rattle.table_schema.specs.declared.query.Agg.{Agg}
 use Rattle.table_schema.specs.declared.query.BoundQuery.{BoundQuery}
 use Rattle.table_schema.specs.Columns.{is_member}
 use Rattle.table_schema.specs.Conditions.{all_hold, cell}
-use Rattle.group_table.specs.Groups.{Adds, Group, Groups, has_key, key_order, number_for}
+use Rattle.group_table.specs.Groups.{Adds, Groups, has_key, key_order, number_for}
 use Rattle.group_table.specs.Groups.{some_states}
 use Rattle.group_table.specs.Groups as table
 use Rattle.group_table.specs.Kept.{IsTableOf, KeptGroups, groups_in}
 use Rattle.group_table.specs.Shape.{shape_of}
 use Rattle.group_table.proofs.GroupsLemmas.{one}
-use Rattle.group_table.proofs.KeptLemmas.{key_same, key_total}
 use Rattle.scan_engine.specs.Scanned.{AddsRows, selected}
 use Rattle.scan_engine.specs.Scanned as scan
 use Rattle.star_reader.specs.declared.asked.Asked.{Asked}

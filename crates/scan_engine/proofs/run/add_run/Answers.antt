@@ -1,4 +1,4 @@
-use Rattle.std.proofs.Common.{◌∙◌, ◌<◌, length, ap, subst, sym, List}
+use Rattle.std.proofs.Common.{◌∙◌, length, ap, subst, sym, List}
 use Rattle.std.proofs.lemmas.Result.{IfOk-weaker}
 use Rattle.table_schema.specs.declared.query.Agg.{Agg}
 use Rattle.agg_laws.specs.declared.states.AggState.{AggState}
