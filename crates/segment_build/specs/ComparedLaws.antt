@@ -198,7 +198,8 @@ compares_stopped a b fault x y s t first =
           (first.differs (omega (arith, long)) is);
       only_reads = first.only_reads;
       log = first.log;
-      once = λ small. once_wider x.file x.at (x.at + length a) x.at (x.at + length (a ++ b)) s.log t.log
+      once = λ small.
+          once_wider x.file x.at (x.at + length a) x.at (x.at + length (a ++ b)) s.log t.log
           (first.once (omega (arith, long))) (omega arith) (omega (arith, long));
     }
 
