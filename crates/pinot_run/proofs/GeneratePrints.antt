@@ -1,12 +1,10 @@
 -- The numbers that `generate` prints are those of the documents that it read.
-use Rattle.std.proofs.Common.{◌≡◌, ◌∙◌, ◌+◌, ◌-◌, ◌*◌, ◌≤◌, ◌++◌, ℕ, zero, suc, true, List, [], ◌∷◌, length, Option, Some, None, refl, sym, ap, arith}
+use Rattle.std.proofs.Common.{◌≡◌, ◌∙◌, ◌+◌, ◌-◌, ◌*◌, ◌≤◌, ◌++◌, ℕ, zero, suc, true, List, [], length, Option, Some, None, refl, sym, ap, arith}
 use Rattle.std.specs.Prelude.{codes, get_or, is_some, slice_get}
 use Rattle.std.specs.Fmt.{decimal}
 use Rattle.std.proofs.lemmas.Bool.{false≢true}
-use Rattle.outside.specs.Files.{Files}
 use Rattle.outside.specs.Reads.{Entry}
 use Rattle.outside.specs.Sink.{appended}
-use Rattle.values.specs.declared.value.Value.{Value}
 use Rattle.table_schema.specs.declared.settings.TreeSetting.{TreeSetting}
 use Rattle.segment_file.specs.Image.{section_of}
 use Rattle.segment_file.specs.declared.part.Part.TheVariants.{Forward}
@@ -14,15 +12,14 @@ use Rattle.segment_head.specs.Stored.{live}
 use Rattle.segment_plan.specs.Laws.{EmptyHasNone, PrunedHasNone}
 use Rattle.segment_plan.specs.Planned.{plan_over}
 use Rattle.segment_reads.specs.Looked.{docs_over}
-use Rattle.segment_reads.specs.Reads.{bytes_read, column_span, star_span}
+use Rattle.segment_reads.specs.Reads.{bytes_read, column_span}
 use Rattle.star_file.specs.Reading.{doc_width}
-use Rattle.table_store.specs.State.{HasTable, Segment, State}
 use Rattle.command_words.specs.declared.note.Note.{Note}
 use Rattle.command_words.specs.declared.status.Status.TheVariants as status
 use Rattle.command_model.specs.Generated.{generate_commands, generated_name, generated_rows, generated_text, last_cell, line_ends, scan_query, tree_query}
-use Rattle.command_model.specs.Step.{Replies, status_after, text_of}
-use Rattle.command_model.specs.Through.{Chain, chain_answer, generate_step, through}
-use Rattle.pinot_run.specs.GenerateReads.{DocsRead, GeneratePrints, numbers_line, own_texts, tree_bytes}
+use Rattle.command_model.specs.Step.{status_after, text_of}
+use Rattle.command_model.specs.Through.{Chain, chain_answer, through}
+use Rattle.pinot_run.specs.GenerateReads.{GeneratePrints, numbers_line, own_texts, tree_bytes}
 use Rattle.pinot_run.specs.ScriptReads.{of_text, plan_docs}
 use Rattle.pinot_run.proofs.GenerateReads.{all_reads}
 use Rattle.pinot_run.proofs.GenerateSteps.{generate_steps}
@@ -56,20 +53,23 @@ generate_prints pruned empty rows files kept state old new inputs stored stands 
     let scanned : last_cell [] (get_or chain.texts 3 []) ≡ decimal rows = left.scan.last ∙ ap decimal (scan_looks pruned empty rows) in
     let line : generated_text rows chain.texts ≡ numbers_line rows groups docs rows =
     (λ i. codes "rows " ++ decimal rows ++ codes ", groups " ++ decimal groups ++ codes ", tree " ++ left.tree.last i ++ codes ", scan " ++ scanned i ++ codes "\n") in
-    let (setting, first) = some_of (slice_get own.settings.trees 0) one_tree in
-    (own, left.accepted, record {
-      groups = groups;
-      docs = docs;
-      printed = follows.out ∙ ap (λ t. appended t old.out.written) (ap text_of (ap (chain_answer rows chain.texts) none) ∙ line);
-      read = λ before entries is now.
-          let all = all_reads rows files kept state own_texts (own_segments rows) own (record { format = 1; rows = generated_rows rows }) old new inputs stored stands g left.state_is left.accepted (own_there rows) before entries is now in
-          record {
-            setting = setting;
-            first = first;
-            tree = all.0 0 setting first ∙ both setting (get_or chain.texts 2 []) (get_or chain.texts 3 []) left.tree left.scan;
-            scan = column entries (λ n is_n. all.1 (own_query scan_query) own_scan left.scan.asks (ap (λ k. plan_over (own_query scan_query) own (generated_rows k)) is_n ∙ scan_plan pruned empty n) none_indexed 2 names_c);
-          };
-    })
+    let (setting, first) = some_of (slice_get own.settings.trees 0) one_tree in (
+      own,
+      left.accepted,
+      record {
+        groups = groups;
+        docs = docs;
+        printed = follows.out ∙ ap (λ t. appended t old.out.written) (ap text_of (ap (chain_answer rows chain.texts) none) ∙ line);
+        read = λ before entries is now.
+            let all = all_reads rows files kept state own_texts (own_segments rows) own (record { format = 1; rows = generated_rows rows }) old new inputs stored stands g left.state_is left.accepted (own_there rows) before entries is now in
+            record {
+              setting = setting;
+              first = first;
+              tree = all.0 0 setting first ∙ both setting (get_or chain.texts 2 []) (get_or chain.texts 3 []) left.tree left.scan;
+              scan = column entries (λ n is_n. all.1 (own_query scan_query) own_scan left.scan.asks (ap (λ k. plan_over (own_query scan_query) own (generated_rows k)) is_n ∙ scan_plan pruned empty n) none_indexed 2 names_c);
+            };
+      },
+    )
   where
     both : (setting : TreeSetting) (tree scan : List ℕ) → CountedFor rows tree_query tree → CountedFor rows scan_query scan
         → tree_bytes own (generated_rows rows) 0 setting tree_query + tree_bytes own (generated_rows rows) 0 setting scan_query ≡ docs_over (own_query tree_query) own (generated_rows rows) * doc_width setting.shape

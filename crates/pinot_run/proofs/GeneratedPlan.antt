@@ -1,13 +1,12 @@
 -- How the segment of generated rows is planned for the two queries: by its star-tree, and by a scan in which no index is.
-use Rattle.std.proofs.Common.{◌≡◌, ◌∙◌, ◌+◌, ◌*◌, ◌<◌, ◌≤◌, ◌&&◌, ◌||◌, ◌==◌, ◌++◌, ℕ, zero, suc, Bool, true, false, List, [], ◌∷◌, length, map, Option, Some, None, get_or, refl, sym, ap, subst, arith}
+use Rattle.std.proofs.Common.{◌≡◌, ◌∙◌, ◌+◌, ◌*◌, ◌<◌, ◌&&◌, ◌||◌, ◌==◌, ◌++◌, ℕ, zero, suc, Bool, true, false, List, [], ◌∷◌, length, map, Option, Some, refl, sym, ap, subst, arith}
 use Rattle.std.specs.Prelude.{if◌then◌else◌, filter, pos, slice_get}
-use Rattle.std.specs.List.{AllByRecursion, list_all, list_any, range_with_len}
-use Rattle.std.proofs.lemmas.Bool.{eqb-true, false≢true, or_cases}
+use Rattle.std.specs.List.{AllByRecursion, range_with_len}
+use Rattle.std.proofs.lemmas.Bool.{eqb-true, false≢true}
 use Rattle.std.proofs.lemmas.List.{length-append}
 use Rattle.bit_column.specs.Column.{bytes_for, width_of}
 use Rattle.bit_column.proofs.Spelling.{length-spelled}
-use Rattle.values.specs.Tests.{holds, holds_step, op_holds}
-use Rattle.values.specs.Order.{value_order}
+use Rattle.values.specs.Tests.{holds, holds_step}
 use Rattle.values.specs.declared.test.CompareOp.TheVariants.{Less}
 use Rattle.values.specs.declared.test.Test.TheFolds.{fold-roll-Test}
 use Rattle.values.specs.declared.test.Test.TheOpen.{Test-F}
@@ -23,21 +22,21 @@ use Rattle.table_schema.specs.declared.query.Conjunct.TheVariants.{One}
 use Rattle.table_schema.specs.declared.table.Table.{Table}
 use Rattle.segment_file.specs.Image.{count_of, dictionary_of, section_of}
 use Rattle.segment_file.specs.declared.part.Part.TheVariants.{Forward}
-use Rattle.segment_head.specs.Heads.{IsLoaded, Seen}
+use Rattle.segment_head.specs.Heads.{IsLoaded}
 use Rattle.eligibility.specs.Rule.{picked}
 use Rattle.segment_plan.specs.Choices.{choice_of, is_sorted_on}
 use Rattle.segment_plan.specs.Laws.{EmptyHasNone, NoneHolds, PrunedHasNone, TellsOf}
 use Rattle.segment_plan.specs.Matched.{AreLoaded, is_filtered}
 use Rattle.segment_plan.specs.Named.{query_names}
-use Rattle.segment_plan.specs.Plan.{is_emptied, plan_of, scan_of, tree_or}
-use Rattle.segment_plan.specs.Planned.{dictionaries_over, plan_over, told_head}
+use Rattle.segment_plan.specs.Plan.{is_emptied, scan_of, tree_or}
+use Rattle.segment_plan.specs.Planned.{plan_over, told_head}
 use Rattle.segment_plan.specs.Pruning.{is_pruned}
 use Rattle.segment_plan.specs.RowsLeft.{indexed, rows_left}
 use Rattle.segment_plan.specs.declared.plans.IndexChoice.{IndexChoice}
 use Rattle.segment_plan.specs.declared.plans.IndexChoice.TheVariants.{Unindexed}
 use Rattle.segment_plan.specs.declared.plans.ScanPlan.{ScanPlan}
 use Rattle.segment_plan.specs.declared.plans.SegmentPlan.{SegmentPlan}
-use Rattle.segment_plan.specs.declared.plans.SegmentPlan.TheVariants.{Empty, Pruned, Scan, StarTree}
+use Rattle.segment_plan.specs.declared.plans.SegmentPlan.TheVariants.{Empty, Pruned, Scan}
 use Rattle.segment_reads.specs.Looked.{docs_by, docs_over}
 use Rattle.command_model.specs.Generated.{generated_row, generated_rows, scan_query, tree_query}
 use Rattle.pinot_run.specs.ScriptReads.{plan_docs}

@@ -1,5 +1,5 @@
 -- What the commands of `generate` leave and reply where each has a reply: the table of its own texts with its rows, and for a query its groups and the line of the segment.
-use Rattle.std.proofs.Common.{◌≡◌, ◌∙◌, ◌++◌, ℕ, Bool, true, false, List, [], ◌∷◌, map as each, Option, Some, None, Result, Ok, Err, is_some, nat_lt, length, refl, sym, ap, subst, arith, append_assoc, append-nil}
+use Rattle.std.proofs.Common.{◌≡◌, ◌∙◌, ◌++◌, ℕ, Bool, true, false, List, [], ◌∷◌, map as each, Some, None, Result, Ok, Err, is_some, nat_lt, length, refl, sym, ap, subst, arith, append_assoc, append-nil}
 use Rattle.std.specs.Prelude.{if◌then◌else◌, nat_le, get_or, flat_map}
 use Rattle.std.specs.FinMap as map
 use Rattle.std.specs.Fmt.{decimal}
@@ -39,10 +39,10 @@ use Rattle.command_words.specs.declared.note.Note.{Note}
 use Rattle.command_words.specs.declared.note.Note.TheVariants.{BadSchema, BadSettings}
 use Rattle.command_model.specs.Build.{fitting, new_rows, table_of as table_in}
 use Rattle.command_model.specs.Create.{Made, beside, own_table, table_of, with_own_settings}
-use Rattle.command_model.specs.Generated.{are_generated, generate_commands, generated_name, generated_rows, generated_schema, generated_settings, last_cell, most_generated, rows_generated, scan_query, tree_query}
+use Rattle.command_model.specs.Generated.{are_generated, generated_name, generated_rows, generated_schema, generated_settings, last_cell, most_generated, rows_generated, scan_query, tree_query}
 use Rattle.command_model.specs.Queried.{each_rows, rows_in}
 use Rattle.command_model.specs.Step.{After, Answer, Refuses, Replies, create_answer, created, has_table, query_answer, rows_answer, sql_answered, step_of, with_rows, with_table}
-use Rattle.command_model.specs.Through.{Chain, after_answer, no_finding, through}
+use Rattle.command_model.specs.Through.{Chain, after_answer, no_finding}
 use Rattle.command_model.proofs.MachineLemmas.{read_as, schema_short, settings_short}
 use Rattle.pinot_run.specs.GenerateReads.{own_texts}
 use Rattle.pinot_run.proofs.CellLemmas.{last_number}
@@ -254,10 +254,10 @@ module _ (n : ℕ) (files : Files) (state : State) where
       let texts_are : whole_chain.texts ≡ t1 ∷ t2 ∷ t3 ∷ t4 ∷ [] =
       ap (λ a. (after_answer a create.state built_chain).texts) a1
       ∙ ap (λ l. t1 ∷ l)
-          (ap (λ a. (after_answer a build.state asked_chain).texts) a2
-          ∙ ap (λ l. t2 ∷ l)
-              (ap (λ a. (after_answer a tree_asked.state (after_answer scan_asked.answer scan_asked.state last_chain)).texts) a3
-              ∙ ap (λ l. t3 ∷ l) (ap (λ a. (after_answer a scan_asked.state last_chain).texts) a4))) in
+      (ap (λ a. (after_answer a build.state asked_chain).texts) a2
+      ∙ ap (λ l. t2 ∷ l)
+      (ap (λ a. (after_answer a tree_asked.state (after_answer scan_asked.answer scan_asked.state last_chain)).texts) a3
+      ∙ ap (λ l. t3 ∷ l) (ap (λ a. (after_answer a scan_asked.state last_chain).texts) a4))) in
       let state_is : whole_chain.state ≡ build.state =
       ap (λ a. (after_answer a create.state built_chain).state) a1 ∙ ap (λ a. (after_answer a build.state asked_chain).state) a2
       ∙ ap (λ a. (after_answer a tree_asked.state (after_answer scan_asked.answer scan_asked.state last_chain)).state) a3 ∙ ap (λ a. (after_answer a scan_asked.state last_chain).state) a4 in

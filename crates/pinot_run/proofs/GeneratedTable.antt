@@ -1,5 +1,5 @@
 -- The table and the queries of `generate`, as its own texts are read.
-use Rattle.std.proofs.Common.{◌≡◌, ◌∙◌, ℕ, Bool, true, false, List, [], ◌∷◌, map, Option, Some, None, Result, Ok, Err, refl, sym, ap}
+use Rattle.std.proofs.Common.{◌≡◌, ◌∙◌, ℕ, Bool, true, false, List, [], ◌∷◌, map, Some, None, Result, Ok, Err, refl, sym, ap}
 use Rattle.std.specs.Prelude.{if◌then◌else◌, nat_lt, is_some, length, slice_get, pos}
 use Rattle.std.specs.Str.{is_utf8, chars}
 use Rattle.std.specs.Float.Numeral.{scan_numeral}
@@ -30,7 +30,6 @@ use Rattle.query_tokens.specs.Lex.{same_kind, is_last, keyword, word, number, qu
 use Rattle.query_tokens.specs.Stream.{lexemes}
 use Rattle.query_tokens.specs.Stream.{kind as next_kind, place as next_place, number as next_number, word as next_word, next as next_tokens}
 use Rattle.query_tokens.specs.declared.fault.QueryFault.{QueryFault}
-use Rattle.query_tokens.specs.declared.tree.Cond.{Cond}
 use Rattle.query_tokens.specs.declared.tree.Cond.TheFolds.{fold-roll-Cond}
 use Rattle.query_tokens.specs.declared.tree.Cond.TheOpen.{Cond-F}
 use Rattle.query_tokens.specs.declared.tree.Cond.TheVariants as cond
