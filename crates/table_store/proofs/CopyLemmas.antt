@@ -1,5 +1,5 @@
 -- The part that files are published by becomes a copy of a file.
-use Rattle.std.proofs.Common.{◌≡◌, ◌∙◌, ◌≤◌, ◌<◌, ◌+◌, ◌↔◌, ℕ, Bool, true, false, cond, zero, suc, List, [], ◌∷◌, ◌++◌, append-nil, append_assoc, drop, length, take, Option, Some, None, IfSome, unwrap_or, Result, Ok, Err, IsErrOf, OnErr, OnOk, refl, sym, ap, subst, arith}
+use Rattle.std.proofs.Common.{◌≡◌, ◌∙◌, ◌≤◌, ◌<◌, ◌+◌, ◌↔◌, ℕ, Bool, true, false, cond, zero, suc, List, [], ◌∷◌, ◌++◌, append-nil, append_assoc, drop, length, take, Option, Some, None, IfSome, unwrap_or, Result, Ok, Err, IsErrOf, refl, sym, ap, subst, arith}
 use Rattle.std.proofs.lemmas.List.{drop-drop, drop_all}
 use Rattle.std.proofs.lemmas.Cmp.{nat_list_cmp_total}
 use Rattle.std.specs.FinMap as map

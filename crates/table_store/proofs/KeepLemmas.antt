@@ -1,12 +1,10 @@
 -- Kept files stand for nothing, and segments are replaced.
-use Rattle.std.proofs.Common.{◌≡◌, ◌≢◌, ◌∙◌, ℕ, List, Some, inl, inr, sym, subst}
+use Rattle.std.proofs.Common.{◌≢◌, ◌∙◌, ℕ, List, inl, inr, sym, subst}
 use Rattle.std.specs.FinMap as map
 use Rattle.outside.specs.Files.{Files}
-use Rattle.segment_file.specs.Names.{file_of}
 use Rattle.table_store.specs.State.{Segments, HasTable, Texts}
 use Rattle.table_store.specs.Kept.{IsKeptName}
 use Rattle.table_store.specs.Stands.{IsLiveName, KeptIdle, KeptStay, ReplaceStands, Stands}
-use Rattle.table_store.specs.TableFile.{table_name}
 use Rattle.table_store.proofs.DropLemmas.{got_left}
 use Rattle.table_store.proofs.KeptLemmas.{live_name, table_live}
 use Rattle.table_store.proofs.SegmentLemmas.{got_other, in_place}

@@ -1,5 +1,5 @@
 -- The segments whose files are published.
-use Rattle.std.specs.Prelude.{◌≡◌, ◌<◌, ◌≤◌, ◌-◌, ℕ, Bool, false, ◌&&◌, Option, Some, None, IfSome, List, [], ◌∷◌, ◌++◌, take, is_some, if◌then◌else◌, length}
+use Rattle.std.specs.Prelude.{◌≡◌, ◌<◌, ◌≤◌, ◌-◌, ℕ, Bool, ◌&&◌, Option, Some, None, IfSome, List, [], ◌∷◌, ◌++◌, take, is_some, if◌then◌else◌, length}
 use Rattle.std.specs.FinMap as map
 use Rattle.std.specs.List.{list_any}
 use Rattle.std.specs.List.Sorted.{IsStrictlySortedBy}
