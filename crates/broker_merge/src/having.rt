@@ -2,7 +2,7 @@
 
 ghost use Rattle.std.specs.Prelude.{◌≡◌, ◌<◌, ◌++◌, ◌∷◌, [], if◌then◌else◌, IfOk, OnOk, Some, length};
 ghost use Rattle.std.specs.List.{range_with_len};
-ghost use Rattle.group_table.specs.Kept.{group_at};
+ghost use Rattle.group_table.specs.Kept.{IsTable, group_at};
 ghost use Rattle.table_schema.specs.Conditions.{cell};
 ghost use Rattle.broker_merge.specs.Order.{state_in};
 ghost use Rattle.broker_merge.specs.Rank.{HasGroup, IsFair};
@@ -15,18 +15,21 @@ use std::alloc::Global;
 use table_schema::Having;
 use values::{CompareOp, NoMemory, Value, op_holds};
 
-/// The places of the groups that a query asks for.
+/// The places of the groups that a query asks for, of so many.
 pub(crate) fn asked(
     alloc: Global,
     table: &GroupsIn<'_>,
+    count: u32,
     having: &Option<Having>,
 ) -> Result<Vec<u32>, NoMemory>
-    requires { MayBeAsked table.now having.now }
+    requires table { IsTable table.now }
+    requires count { count ≡ length table.now.groups }
+    requires asked { MayBeAsked table.now having.now }
     ensures { IfOk result (λ v. v.items ≡ spec.asked_places table.now having.now) }
 {
     match having {
-        Some(having) => holding(alloc, table, having),
-        None => places_below(alloc, table.groups()),
+        Some(having) => holding(alloc, table, count, having),
+        None => places_below(alloc, count),
     }
 }
 
@@ -43,12 +46,19 @@ fn places_below(alloc: Global, count: u32) -> Result<Vec<u32>, NoMemory>
 
 // The places of the groups that satisfy the condition.
 #[tactic(auto, using(crate::proofs::AskedLemmas::filter_more))]
-fn holding(alloc: Global, table: &GroupsIn<'_>, having: &Having) -> Result<Vec<u32>, NoMemory>
-    requires { IsAsked table.now having.now }
+fn holding(
+    alloc: Global,
+    table: &GroupsIn<'_>,
+    count: u32,
+    having: &Having,
+) -> Result<Vec<u32>, NoMemory>
+    requires table { IsTable table.now }
+    requires count { count ≡ length table.now.groups }
+    requires asked { IsAsked table.now having.now }
     ensures { IfOk result (λ v. v.items ≡ spec.asked_places table.now (Some having.now)) }
 {
     let mut places = Vec::new(alloc);
-    for at in 0..table.groups() {
+    for at in 0..count {
         let wanted = holds(table, at, having);
         push_if(&mut places, at, wanted)?;
     }

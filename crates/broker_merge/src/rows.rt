@@ -78,8 +78,8 @@ fn first_in_order(
     ensures table { IsTable table.now }
     ensures count { length table.now.groups ≡ finite.len (groups_in table.now) }
 {
-    let _count = table.groups();
-    let kept = asked(alloc, table, &query.having)?;
+    let count = table.groups();
+    let kept = asked(alloc, table, count, &query.having)?;
     if kept.len() < 2 {
         Ok(kept)
     } else {

@@ -11,8 +11,8 @@ use Rattle.broker_merge.proofs.FewLemmas.{grouped, asked_of_table, keys_of_table
 use Rattle.broker_merge.proofs.AskedLemmas.{asked_fewer, asked_in_order, asked_kept, begun_as, few_begin}
 use Rattle.broker_merge.proofs.rows.first_in_order.Goals as goal
 
-pub asked-requires : goal.asked-requires
-asked-requires c = asked_of_table c.args.query.now c.args.table.now c.requires.table c.args.query.now.having c.requires.places.grouped c.requires.places.asked
+pub asked-requires-clause-asked : goal.asked-requires-clause-asked
+asked-requires-clause-asked c = asked_of_table c.args.query.now c.args.table.now c.requires.table c.args.query.now.having c.requires.places.grouped c.requires.places.asked
 
 pub ordered-requires-clause-of_table : goal.ordered-requires-clause-of_table
 ordered-requires-clause-of_table c =
@@ -37,8 +37,8 @@ returns-then-len-lt2-clause-order c =
     subst (BeginInOrder t (asked_groups q.having (finite.entries (groups_in t))) q.order c.args.most) (sym is)
     (few_begin t q.order c.args.most q.having c.groups-count.ensures.table (omega (arith, ap length is)))
 
-pub returns-clause-order : goal.returns-clause-order
-returns-clause-order c =
+pub returns-else-len-lt2-clause-order : goal.returns-else-len-lt2-clause-order
+returns-else-len-lt2-clause-order c =
     let t : KeptGroups = c.args.table.now in
     let q = c.args.query.now in
     let order = c.as_slice.ensures in
