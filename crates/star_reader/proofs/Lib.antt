@@ -4,3 +4,4 @@ pub mod PassSteps
 pub mod FaultSteps
 pub mod ReadSteps
 pub mod TestSteps
+pub mod PartSteps
