@@ -1,5 +1,5 @@
 -- The reads of a check: each of a part of the file that comes after those before it.
-use Rattle.std.proofs.Common.{◌≡◌, ◌∙◌, ◌+◌, ◌-◌, ◌<◌, ◌≤◌, ◌==◌, ◌||◌, ◌++◌, [], ◌∷◌, ℕ, zero, suc, Bool, true, false, cond, List, Option, Some, length, map, sum, take, get_or, refl, sym, ap, subst, arith, append_assoc, eq-eqb}
+use Rattle.std.proofs.Common.{◌≡◌, ◌∙◌, ◌+◌, ◌*◌, ◌/◌, ◌-◌, ◌<◌, ◌≤◌, ◌==◌, ◌||◌, ◌++◌, [], ◌∷◌, ℕ, zero, suc, Bool, true, false, cond, List, Option, Some, length, map, sum, take, get_or, refl, sym, ap, subst, arith, append_assoc, eq-eqb}
 use Rattle.std.specs.Prelude.{IfSome, nat_lt, option_map, option_to_list}
 use Rattle.std.specs.List.{find, list_any, range_with_len}
 use Rattle.std.proofs.lemmas.Bool.{eqb-true, false≢true, ltb-false, ltb-true}
@@ -180,7 +180,7 @@ range_once place width zero old new up past =
     (omega arith) (omega (arith, zero_first width))
   where
     zero_first : (w : ℕ) → first_byte w 0 ≡ 0
-    zero_first w = refl
+    zero_first w = let none : 0 * w ≡ 0 = omega arith in ap (λ n. n / 8) none
 range_once place width (suc n) old new up past =
     elim (nat_lt place.length (end_byte width 0 (suc n))) as (λ b. nat_lt place.length (end_byte width 0 (suc n)) ≡ b → LogsOnce place.file place.offset (place.offset + place.length) old new) [
       | true ↦ λ e. once_none place.file place.offset (place.offset + place.length) old new (past (ltb-true place.length (end_byte width 0 (suc n)) e) (omega arith))

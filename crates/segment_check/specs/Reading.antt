@@ -1,5 +1,5 @@
 -- What is read of a file, a part after the other (inside the crate alone).
-use Rattle.std.specs.Prelude.{◌≡◌, ◌<◌, ◌⊎◌, ℕ, pos, List, [], length, take, get_or, slice_get, Option, Some, IfSome, false, Result, IfErr, IfOk, IsErrOf, OnOk}
+use Rattle.std.specs.Prelude.{◌≡◌, ◌+◌, ◌<◌, ◌⊎◌, ℕ, pos, List, [], length, take, get_or, slice_get, Option, Some, IfSome, false, Result, IfErr, IfOk, IsErrOf, OnOk}
 use Rattle.std.specs.List.{All}
 use Rattle.outside.specs.Files.{Files}
 use Rattle.outside.specs.Reads.{Entry}

@@ -16,7 +16,6 @@ ghost use Rattle.segment_check.specs.Reading.{IsSomeHead, LogsColumn};
 use crate::coded::read_coded_column;
 use crate::columns::column_of;
 use crate::head::FileHead;
-use csv_text::CodedColumn as ReadColumn;
 use data_types::FieldKind;
 use dictionary::Dictionary;
 use outside::{NoMemory, Shelf};
@@ -83,7 +82,7 @@ fn read_column_codes<'a, S: Shelf>(
     ensures once { LogsColumn head.now column (S.log shelf.old) (S.log shelf.new) }
 {
     match read_coded_column(alloc, shelf, head, column) {
-        Ok(ReadColumn { dictionary, ids }) => Ok(codes_of(alloc, kind, dictionary, ids)?),
+        Ok(read) => Ok(codes_of(alloc, kind, read.dictionary, read.ids)?),
         Err(fault) => Err(fault),
     }
 }

@@ -6,7 +6,7 @@ use Rattle.segment_check.specs.Reading.{IsColumn}
 use Rattle.segment_check.proofs.codes.read_column_codes.Goals as goal
 
 pub codes_of-requires-clause-kind : goal.codes_of-requires-clause-kind
-codes_of-requires-clause-kind g c = c.requires.kind c.in-Ok.dictionary.now c.in-Ok.ensures.reads.own
+codes_of-requires-clause-kind g c = c.requires.kind c.in-Ok.read.dictionary.now c.in-Ok.ensures.reads.own
 
 pub codes_of-requires-clause-below : goal.codes_of-requires-clause-below
 codes_of-requires-clause-below g c = c.in-Ok.ensures.reads.coded.below
@@ -20,7 +20,7 @@ returns-in_ok-codes_of-in-Ok-clause-reads g c =
     let head = c.args.head.now in
     let first = c.in-Ok.ensures.reads in
     let coded = c.in_ok-codes_of-in-Ok.ensures in
-    let read : CodedColumn = record { dictionary = c.in-Ok.dictionary; ids = c.in-Ok.ids } in
+    let read : CodedColumn = c.in-Ok.read in
     let old : Seen = seen g.S.Shelf c.args.shelf.now in
     let new : Seen = seen g.S.Shelf c.read_coded_column.new.shelf in
     record {
