@@ -101,16 +101,16 @@ impl KeyedRows {
         })
     }
 
-    /// The states of a key.
-    pub fn states_at(&self, alloc: Global, key: usize) -> Result<StateRow, NoMemory>
+    /// Puts the states of a key in place of those of a row.
+    pub fn fill_states(&self, key: usize, row: &mut StateRow) -> Result<(), NoMemory>
         requires { All (λ own. key < size_in own) self.now.aggs.items }
-        ensures { IfOk result (λ row. row ≡ map (λ own. state_in own key) self.now.aggs.items) }
+        ensures { OnOk result (row.new ≡ map (λ own. state_in own key) self.now.aggs.items) }
     {
-        let mut row = StateRow::new(alloc);
+        row.clear();
         for own in self.aggs.as_slice() {
             row.push(own.at(key))?;
         }
-        Ok(row)
+        Ok(())
     }
 }
 

@@ -16,9 +16,29 @@ ghost use Rattle.coded_scan.specs.Passed.{MayMerge, passed, passed_rows, run_of}
 use crate::filtered_rows::FilteredRows;
 use coded_columns::{KeyedRows, SegmentColumns};
 use group_table::{GroupTable, SlotPool, TableFault};
+use state_columns::StateRow;
 use std::alloc::Global;
 use table_schema::BoundQuery;
 use values::{NoMemory, Row, Value};
+
+// Room for the key and the states of one group after another.
+#[derive(Drop)]
+struct GroupRoom {
+    alloc: Global,
+    values: Vec<Value>,
+    states: StateRow,
+}
+
+impl GroupRoom {
+    // Room that takes no memory yet.
+    fn new(alloc: Global) -> GroupRoom {
+        GroupRoom {
+            alloc,
+            values: Vec::new(alloc),
+            states: StateRow::new(alloc),
+        }
+    }
+}
 
 /// Merges the states of each key into its group.
 pub fn merge_keys(
@@ -39,28 +59,27 @@ pub fn merge_keys(
         (in_pool table.old pool.old) (in_pool table.new pool.new) result }
     ensures stays { StaysIn table.old pool.old table.new pool.new }
 {
-    let mut values = Vec::with_capacity(alloc, query.groups.as_slice().len())?;
+    let mut room = GroupRoom::new(alloc);
     for key in 0..keyed.firsts.len() {
-        match merge_key(alloc, query, rows, keyed, key, values, table, pool) {
-            Ok(next) => values = next,
+        match merge_key(query, rows, keyed, key, room, table, pool) {
+            Ok(next) => room = next,
             Err(fault) => return Err(fault),
         }
     }
     Ok(())
 }
 
-// Merges the states of a key into its group, if some row has the key. The key's values are put in
-// place of others.
+// Merges the states of a key into its group, if some row has the key. The key's values and states
+// are put in place of others.
 fn merge_key(
-    alloc: Global,
     query: &BoundQuery,
     rows: FilteredRows<'_, '_>,
     keyed: &KeyedRows,
     key: usize,
-    values: Vec<Value>,
+    room: GroupRoom,
     table: &mut GroupTable,
     pool: &mut SlotPool,
-) -> Result<Vec<Value>, TableFault>
+) -> Result<GroupRoom, TableFault>
     requires pooled { IsTableIn table.old pool.old }
     requires table { IsTableOf query.now (in_pool table.old pool.old) }
     requires key { key < length keyed.now.firsts.items }
@@ -74,15 +93,24 @@ fn merge_key(
 {
     let first = keyed.firsts[key];
     if first == 0 {
-        return Ok(values);
+        return Ok(room);
     }
+    let GroupRoom {
+        alloc,
+        values,
+        mut states,
+    } = room;
     let columns = query.groups.as_slice();
     let own = key_at(alloc, rows.segment, columns, first as usize - 1, values)?;
-    let states = keyed.states_at(alloc, key)?;
+    keyed.fill_states(key, &mut states)?;
     if let Err(fault) = table.merge_row(alloc, pool, &own, &states) {
         return Err(fault);
     }
-    Ok(own.into_vec())
+    Ok(GroupRoom {
+        alloc,
+        values: own.into_vec(),
+        states,
+    })
 }
 
 // The key of a row, in place of the values of another.

@@ -179,14 +179,14 @@ abbrev pub written : ℕ → CodedColumn → List ℕ
 written row column = text_of (get_or (listed column).values row (Whole (pos 0)))
 
 -- the value's own cell
-pub cell_placed : (at width row : ℕ) (column : CodedColumn) → HasRow row column → get_or (ids_of column.ids) row 0 < length (cell_texts at width (values_of column.values))
+pub cell_placed : (at width row : ℕ) (column : CodedColumn) → HasRow row column → get_or (ids_of column.ids) row 0 < length (cell_texts at width (values_of column))
 cell_placed at width row column has =
-    let lt : get_or (ids_of column.ids) row 0 < length (values_of column.values) = All-get_or (λ id. id < length (values_of column.values)) (ids_of column.ids) row 0 has.within has.below in
-    omega (arith, lt, length-map (values_of column.values) (λ v. cell_text at width (text_of v)))
+    let lt : get_or (ids_of column.ids) row 0 < length (values_of column) = All-get_or (λ id. id < length (values_of column)) (ids_of column.ids) row 0 has.within has.below in
+    omega (arith, lt, length-map (values_of column) (λ v. cell_text at width (text_of v)))
 
-pub cell_got : (at width row : ℕ) (column : CodedColumn) → HasRow row column → get_or (cell_texts at width (values_of column.values)) (get_or (ids_of column.ids) row 0) [] ≡ cell_text at width (written row column)
+pub cell_got : (at width row : ℕ) (column : CodedColumn) → HasRow row column → get_or (cell_texts at width (values_of column)) (get_or (ids_of column.ids) row 0) [] ≡ cell_text at width (written row column)
 cell_got at width row column has =
-    let values : List Value = values_of column.values in
+    let values : List Value = values_of column in
     let ids : List ℕ = ids_of column.ids in
     let lt : get_or ids row 0 < length values = All-get_or (λ id. id < length values) ids row 0 has.within has.below in
     get_or-map (λ v. cell_text at width (text_of v)) values (get_or ids row 0) (Whole (pos 0)) [] lt
@@ -244,7 +244,7 @@ row_last row columns k column old mid new cell at m end last is first same secon
 pub counts_of : (rows : ℕ) (columns : List CodedColumn) → All (IsCodedColumn rows) columns → All (Counts rows) (map listed columns)
 counts_of rows columns coded =
     All-map (Counts rows) listed columns
-    (All-weaker (IsCodedColumn rows) (λ c. Counts rows (listed c)) (λ c is. length-map (ids_of c.ids) (λ id. get_or (values_of c.values) id (Whole (pos 0))) ∙ is.count) columns coded)
+    (All-weaker (IsCodedColumn rows) (λ c. Counts rows (listed c)) (λ c is. length-map (ids_of c.ids) (λ id. get_or (values_of c) id (Whole (pos 0))) ∙ is.count) columns coded)
 
 -- one more record
 pub records_step : (rows : List (List Value)) (at : ℕ) (row : List Value) → slice_get rows at ≡ Some row → records_text (take (at + 1) rows) ≡ records_text (take at rows) ++ row_text default_writer (map text_of row)
@@ -264,11 +264,11 @@ told_ok (Err why) f p = tt
 
 -- the cells of one more column
 pub cells_more : (columns : List CodedColumn) (at : ℕ) (column : CodedColumn) (cells new : List Cells) (own : Cells) → at < length columns → column ≡ get_or columns at column → AreCells columns at cells → new ≡ cells ++ own ∷ []
-    → HasCells (cell_texts at (length columns) (values_of column.values)) own → AreCells columns (at + 1) new
+    → HasCells (cell_texts at (length columns) (values_of column)) own → AreCells columns (at + 1) new
 cells_more columns at column cells new own lt is are one has = record {
   many = ap length one ∙ length_push cells own ∙ ap (λ n. n + 1) are.many;
   each = λ k other mine le got there.
-      elim (nat_lt k at) as (λ b. nat_lt k at ≡ b → HasCells (cell_texts k (length columns) (values_of other.values)) mine) [
+      elim (nat_lt k at) as (λ b. nat_lt k at ≡ b → HasCells (cell_texts k (length columns) (values_of other)) mine) [
         | true ↦ λ t.
             let before : k < at = ltb-true k at t in
             let within : k < length cells = omega (arith, before, are.many) in
@@ -280,7 +280,7 @@ cells_more columns at column cells new own lt is are one has = record {
             let end : length cells ≡ k = omega (arith, are.many, here) in
             let mine_is : own ≡ mine = sym (get_or_at cells own [] mine k end) ∙ ap (λ l. get_or l k mine) (sym one) ∙ get_or_from_slice_get new k mine mine there in
             let other_is : column ≡ other = is ∙ ap (λ n. get_or columns n column) (sym here) ∙ get_or_from_slice_get columns k other column got in
-            subst (λ n. HasCells (cell_texts n (length columns) (values_of other.values)) mine) (sym here)
-            (subst (λ (c : CodedColumn). HasCells (cell_texts at (length columns) (values_of c.values)) mine) other_is (subst (HasCells (cell_texts at (length columns) (values_of column.values))) mine_is has))
+            subst (λ n. HasCells (cell_texts n (length columns) (values_of other)) mine) (sym here)
+            (subst (λ (c : CodedColumn). HasCells (cell_texts at (length columns) (values_of c)) mine) other_is (subst (HasCells (cell_texts at (length columns) (values_of column))) mine_is has))
       ] refl;
 }

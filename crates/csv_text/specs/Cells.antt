@@ -41,7 +41,7 @@ pub record AreCells (columns : List CodedColumn) (count : ℕ) (cells : List Cel
   pub many : length cells ≡ count
   pub each : (k : ℕ) (column : CodedColumn) (own : Cells) → k < count
       → slice_get columns k ≡ Some column → slice_get cells k ≡ Some own
-      → HasCells (cell_texts k (length columns) (values_of column.values)) own
+      → HasCells (cell_texts k (length columns) (values_of column)) own
 
 -- some bytes were put after the first so many of a text, which ends there now
 pub record IsPut (old : List ℕ) (at : ℕ) (bytes new : List ℕ) (end : ℕ) : Type 0 where

@@ -2,18 +2,14 @@
 use Rattle.std.specs.Prelude.{◌≡◌, ◌<◌, ℕ, false, List, length, map}
 use Rattle.values.specs.Columns.{Listed, ListedColumns}
 use Rattle.values.specs.declared.value.Value.{Value}
-use Rattle.values.specs.declared.value.Value.TheVariants.{Whole, Text}
 use Rattle.value_ids.specs.Coding.{AreBelow, values_at}
 use Rattle.csv_text.specs.declared.coded.CodedColumn.{CodedColumn}
-use Rattle.csv_text.specs.declared.coded.ColumnValues.{ColumnValues}
-use Rattle.csv_text.specs.declared.coded.ColumnValues.TheVariants.{Numbers, Texts}
 use Rattle.csv_text.specs.declared.coded.RowIds.{RowIds}
 use Rattle.csv_text.specs.declared.coded.RowIds.TheVariants.{Narrow, Wide}
 
 -- the values by their places
-abbrev pub values_of : ColumnValues → List Value
-values_of (Numbers numbers) = map Whole numbers.now
-values_of (Texts texts) = map Text texts.now
+abbrev pub values_of : CodedColumn → List Value
+values_of column = column.dictionary.now.values
 
 -- the place of each row's value
 abbrev pub ids_of : RowIds → List ℕ
@@ -23,18 +19,18 @@ ids_of (Wide ids) = ids.items
 -- there is a place for each of so many rows, and a value at it
 pub record IsCodedColumn (rows : ℕ) (column : CodedColumn) : Type 0 where
   pub count : length (ids_of column.ids) ≡ rows
-  pub below : AreBelow (length (values_of column.values)) (ids_of column.ids)
+  pub below : AreBelow (length (values_of column)) (ids_of column.ids)
 
 -- there is a place for this row, and a value at each place
 pub record HasRow (row : ℕ) (column : CodedColumn) : Type 0 where
   pub within : row < length (ids_of column.ids)
-  pub below : AreBelow (length (values_of column.values)) (ids_of column.ids)
+  pub below : AreBelow (length (values_of column)) (ids_of column.ids)
 
 -- the values of the rows
 abbrev pub listed : CodedColumn → Listed
 listed column = record {
   are_texts = false;
-  values = values_at (values_of column.values) (ids_of column.ids);
+  values = values_at (values_of column) (ids_of column.ids);
 }
 
 -- so many rows in these columns

@@ -1,27 +1,8 @@
 //! Columns by the places of their values.
 ghost use Rattle.std.specs.Prelude.{◌≡◌, ◌<◌, get_or, length};
-ghost use Rattle.csv_text.specs.Coded.{ids_of, values_of};
+ghost use Rattle.csv_text.specs.Coded.{ids_of};
 
-use data_types::TextPool;
-
-/// The values that a column has, which are all numbers or all texts.
-#[derive(Clone, Copy)]
-pub enum ColumnValues<'a> {
-    Numbers(&'a [i64]),
-    Texts(&'a TextPool),
-}
-
-impl ColumnValues<'_> {
-    /// How many there are.
-    pub(crate) fn count(self) -> usize
-        ensures { result ≡ length (values_of self.entry) }
-    {
-        match self {
-            ColumnValues::Numbers(numbers) => numbers.len(),
-            ColumnValues::Texts(texts) => texts.len(),
-        }
-    }
-}
+use dictionary::Dictionary;
 
 /// For each row the place of its value, in two bytes or in four.
 #[derive(Drop)]
@@ -44,9 +25,9 @@ impl RowIds {
     }
 }
 
-/// A column: the values that it has, and for each row the place of its own among them.
+/// A column: the dictionary of its values, and for each row the place of its own among them.
 #[derive(Drop)]
 pub struct CodedColumn<'a> {
-    pub values: ColumnValues<'a>,
+    pub dictionary: &'a Dictionary,
     pub ids: RowIds,
 }

@@ -4,7 +4,7 @@ ghost use Rattle.outside.specs.Seen.{seen};
 ghost use Rattle.bit_column.specs.Column.{width_of};
 ghost use Rattle.bit_column.specs.Reading.{ReadsRange};
 ghost use Rattle.bit_column.specs.Sections.{AppendsRange};
-ghost use Rattle.csv_text.specs.Coded.{ids_of, values_of};
+ghost use Rattle.csv_text.specs.Coded.{ids_of};
 ghost use Rattle.segment_file.specs.declared.part.Part.TheVariants as part;
 ghost use Rattle.segment_build.specs.FileReads.{LogsFile};
 ghost use Rattle.segment_head.specs.Heads.{AreIn, IsLoaded, place_in};
@@ -13,8 +13,7 @@ ghost use Rattle.segment_check.specs.Reading.{IsSomeHead};
 
 use crate::head::FileHead;
 use bit_column::{ColumnFault, IdRange, Width, append_narrow, append_range, width_for};
-use csv_text::{CodedColumn, ColumnValues, RowIds};
-use dictionary::Dictionary;
+use csv_text::{CodedColumn, RowIds};
 use outside::{NoMemory, Place, Shelf};
 use segment_file::{HeadFault, Part};
 use segment_head::Head;
@@ -75,26 +74,10 @@ fn read_coded_column<'a, S: Shelf>(
     };
     let dictionary = head.dictionary(column);
     match read_ids(alloc, shelf, place, dictionary.count(), head.rows()) {
-        Ok(ids) => Ok(CodedColumn {
-            values: values_in(dictionary),
-            ids,
-        }),
+        Ok(ids) => Ok(CodedColumn { dictionary, ids }),
         Err(ColumnFault::BadId) => Err(HeadFault::NotASegment(Part::Forward(column))),
         Err(ColumnFault::ReadFault) => Err(HeadFault::ReadFault),
         Err(ColumnFault::NoMemory) => Err(HeadFault::NoMemory),
-    }
-}
-
-// The values of a dictionary where they lie. One without any may be of either sort.
-fn values_in(dictionary: &Dictionary) -> ColumnValues<'_>
-    ensures { values_of result ≡ dictionary.now.values }
-{
-    if let Some(numbers) = dictionary.numbers() {
-        return ColumnValues::Numbers(numbers);
-    }
-    match dictionary.texts() {
-        Some(texts) => ColumnValues::Texts(texts),
-        None => ColumnValues::Numbers(&[]),
     }
 }
 

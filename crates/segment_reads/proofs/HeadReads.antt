@@ -37,7 +37,7 @@ use Rattle.segment_plan.specs.Planned.{plan_over}
 use Rattle.star_file.specs.Reading.{doc_width}
 use Rattle.segment_reads.specs.Docs.{docs_read}
 use Rattle.segment_reads.specs.Logs.{EndsBy, IsHeadRead, LogsThat}
-use Rattle.segment_reads.specs.Reads.{AreBytes, ReadsBy, ReadsPlanned, bytes_read, forward_span, raw_span, star_span}
+use Rattle.segment_reads.specs.Reads.{AreBytes, ReadsBy, ReadsPlanned, bytes_read, column_span, forward_span, raw_span, star_span}
 use Rattle.segment_head.specs.Stored.{HasImage}
 use Rattle.segment_head.specs.declared.stored.Stored.{Stored}
 use Rattle.segment_head.proofs.SectionLemmas.{if_some, section_at, first_true, rest_true}
@@ -212,6 +212,11 @@ module _ (query : BoundQuery) (table : Table) (segment : Stored) (os : List (Lis
     after_by (Scan plan) p = record {
       stars = λ t. star_after t ∙ p.stars t;
       forward = let at_most = p.forward in let same = forward_after in omega (arith, at_most, same);
+      whole = λ is none column named.
+          let span = column_span table segment.name os column in
+          let all = p.whole is none column named in
+          let sum = read_in-append x y segment.file span.from span.to in
+          omega (arith, all, sum);
     }
 
     -- reads of the head before them change nothing

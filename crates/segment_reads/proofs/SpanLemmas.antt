@@ -1,5 +1,6 @@
 -- Where the parts of a segment's file are, and how many bytes of them reads gave.
 use Rattle.std.proofs.Common.{◌≡◌, ◌≢◌, ◌∙◌, ◌+◌, ◌*◌, ◌-◌, ◌≤◌, ◌++◌, ◌⊎◌, [], ◌∷◌, ℕ, Bool, true, false, List, All, Option, Some, None, IfSome, inl, inr, length, map, option_map, slice_get, refl, sym, ap, subst, arith}
+use Rattle.std.proofs.lemmas.Bool.{false≢true}
 use Rattle.std.proofs.lemmas.List.Elements.{All-append, All-head, All-nil, All-tail}
 use Rattle.std.proofs.Math.Nat.{mul-sub}
 use Rattle.std.specs.List.{AllByRecursion}
@@ -20,7 +21,7 @@ use Rattle.star_file.specs.Reading.{doc_width}
 use Rattle.outside.specs.declared.place.Place.{Place}
 use Rattle.segment_reads.specs.Docs.{docs_read, product}
 use Rattle.segment_reads.specs.Logs.{EndsBy}
-use Rattle.segment_reads.specs.Reads.{AreBytes, ReadsBy, ReadsPlanned, ReadsScan, bytes_read, forward_span, raw_span, star_span}
+use Rattle.segment_reads.specs.Reads.{AreBytes, ReadsBy, ReadsPlanned, ReadsScan, bytes_read, column_span, forward_span, raw_span, star_span}
 use Rattle.segment_reads.proofs.GrownLemmas.{IsOfFile}
 use Rattle.segment_reads.proofs.LogLemmas.{join_logs, of_file, same_log}
 use Rattle.segment_head.specs.declared.stored.Stored.{Stored}
@@ -94,15 +95,20 @@ module _ (segment : Stored) (x y : List Entry) where
 
 module _ (query : BoundQuery) (table : Table) (segment : Stored) (rows : List (List Value)) (plan : ScanPlan) where
   -- no reads of a scan
-  pub scan_nothing : ReadsScan query table segment rows plan []
-  scan_nothing = record { stars = λ t. refl; forward = omega arith }
+  pub scan_nothing : ReadsScan query table segment rows plan false []
+  scan_nothing = record { stars = λ t. refl; forward = omega arith; whole = λ is none column named. absurd (false≢true is) }
 
   -- reads of a scan that gave as many bytes of each part
-  scan_as_many : (x y : List Entry) → ((span : Stretch) → bytes_read y segment span ≡ bytes_read x segment span) → ReadsScan query table segment rows plan x → ReadsScan query table segment rows plan y
-  scan_as_many x y same r = record {
+  scan_as_many : (answered : Bool) (x y : List Entry) → ((span : Stretch) → bytes_read y segment span ≡ bytes_read x segment span) → ReadsScan query table segment rows plan answered x → ReadsScan query table segment rows plan answered y
+  scan_as_many answered x y same r = record {
     stars = λ t. same (star_span table segment.name rows t) ∙ r.stars t;
     forward = let few = r.forward in omega (arith, few, same (forward_span table segment.name rows));
+    whole = λ is none column named. let all = r.whole is none column named in omega (arith, all, same (column_span table segment.name rows column));
   }
+
+  -- where a query was not answered no more is said
+  scan_less : (entries : List Entry) → ReadsScan query table segment rows plan true entries → ReadsScan query table segment rows plan false entries
+  scan_less entries r = record { stars = r.stars; forward = r.forward; whole = λ is none column named. absurd (false≢true is) }
 
 module _ (query : BoundQuery) (table : Table) (answered : Bool) (segment : Stored) (rows : List (List Value)) where
   -- reads that gave as many bytes of each part
@@ -115,7 +121,7 @@ module _ (query : BoundQuery) (table : Table) (answered : Bool) (segment : Store
     others = λ other ne. same (star_span table segment.name rows other) ∙ p.others other ne;
     bounded = p.bounded;
   }
-  as_many x y same (Scan plan) p = scan_as_many query table segment rows plan x y same p
+  as_many x y same (Scan plan) p = scan_as_many query table segment rows plan answered x y same p
 
 pub planned_of_file : (query : BoundQuery) (table : Table) (answered : Bool) → IsOfFile (ReadsPlanned query table answered)
 planned_of_file query table answered = record {
@@ -143,4 +149,4 @@ planned_less query table segment rows entries p = by (plan_over query table rows
       others = p.others;
       bounded = p.bounded;
     }
-    by (Scan plan) p = p
+    by (Scan plan) p = scan_less query table segment rows plan entries p

@@ -9,14 +9,16 @@ use Rattle.table_schema.specs.declared.query.BoundQuery.{BoundQuery}
 use Rattle.table_schema.specs.declared.table.Table.{Table}
 use Rattle.outside.specs.Stretches.{Stretch}
 use Rattle.segment_file.specs.Front.{Front, front_size}
-use Rattle.segment_file.specs.Image.{front_of}
+use Rattle.segment_file.specs.Image.{front_of, section_of}
 use Rattle.segment_file.specs.Ordered.{ordered}
 use Rattle.segment_file.specs.Parts.{head_sections, raw_sections}
+use Rattle.segment_file.specs.declared.part.Part.TheVariants.{Forward}
 use Rattle.segment_plan.specs.declared.plans.ScanPlan.{ScanPlan}
 use Rattle.segment_plan.specs.declared.plans.SegmentPlan.{SegmentPlan}
 use Rattle.segment_plan.specs.declared.plans.SegmentPlan.TheVariants.{Pruned, Empty, StarTree, Scan}
 use Rattle.segment_plan.specs.Planned.{factors_over, plan_over}
-use Rattle.segment_plan.specs.Named.{names_in}
+use Rattle.segment_plan.specs.Named.{names_in, query_names}
+use Rattle.segment_plan.specs.RowsLeft.{indexed}
 use Rattle.segment_plan.specs.Served.{rest_of}
 use Rattle.star_file.specs.Reading.{doc_width}
 use Rattle.segment_reads.specs.Docs.{docs_read, product}
@@ -42,6 +44,11 @@ raw_span table name rows = span_of table name (front_of 1 table rows) (length (h
 abbrev pub forward_span : Table → List ℕ → List (List Value) → Stretch
 forward_span table name rows = span_of table name (front_of 1 table rows)
     (length (head_sections table)) (length table.schema.fields)
+
+-- the forward index of a column
+abbrev pub column_span : Table → List ℕ → List (List Value) → ℕ → Stretch
+column_span table name rows column = span_of table name (front_of 1 table rows)
+    (length (head_sections table) + column) 1
 
 -- the documents of a star-tree
 abbrev pub star_span : Table → List ℕ → List (List Value) → ℕ → Stretch
@@ -86,13 +93,18 @@ marked_count (false ∷ marks) = marked_count marks
 
 -- of no star-tree's documents anything, and of the forward indexes together at most four bytes for
 -- each document that the indexes leave and each column that is named beside the conjuncts that the
--- indexes serve
+-- indexes serve; where the query was answered and no conjunct has an index, at least all bytes of
+-- the forward index of each column that it names
 pub record ReadsScan (query : BoundQuery) (table : Table) (segment : Stored)
-    (rows : List (List Value)) (plan : ScanPlan) (entries : List Entry) : Type 0 where
+    (rows : List (List Value)) (plan : ScanPlan) (answered : Bool) (entries : List Entry)
+    : Type 0 where
   pub stars : (t : ℕ) → bytes_read entries segment (star_span table segment.name rows t) ≡ 0
   pub forward : bytes_read entries segment (forward_span table segment.name rows)
       ≤ 4 * docs_by query table rows (Scan plan) * marked_count
       (names_in (rest_of query plan.choices) table)
+  pub whole : answered ≡ true → indexed plan.choices query.conjuncts ≡ [] → (column : ℕ)
+      → query_names query column ≡ true → length (section_of table rows (Forward column))
+      ≤ bytes_read entries segment (column_span table segment.name rows column)
 
 -- what is read by a plan
 abbrev pub ReadsBy : BoundQuery → Table → Stored → List (List Value) → Bool → List Entry
@@ -102,7 +114,7 @@ ReadsBy query table segment rows answered entries Empty = ReadsNone table segmen
 ReadsBy query table segment rows answered entries
     (StarTree t) = ReadsTree query table segment rows t answered entries
 ReadsBy query table segment rows answered entries
-    (Scan plan) = ReadsScan query table segment rows plan entries
+    (Scan plan) = ReadsScan query table segment rows plan answered entries
 
 -- what is read of a segment that has these rows in this order: that of their plan
 abbrev pub ReadsPlanned : BoundQuery → Table → Bool → Stored → List (List Value) → List Entry

@@ -209,6 +209,33 @@ module _ (head : Seen) (named : List Bool) (limit : ℕ) (all : (other : ℕ) �
       some_same : {X : Type 0} {x y : X} → Some x ≡ Some y → x ≡ y
       some_same e = cc
 
+-- ---- a query of which no conjunct is indexed
+
+some_place : (o : Option Place) → IsSome o → (place : Place) × (o ≡ Some place)
+some_place None some = absurd (false≢true some)
+some_place (Some place) some = (place, refl)
+
+-- a loaded column has a forward index
+pub forward_there : (table : Table) (head : Seen) (column : ℕ) → IsHeadOf table head → IsLoaded head column → (place : Place) × (place_in head.sections (parts.Forward column) ≡ Some place)
+forward_there table head column of_table own = some_place (place_in head.sections (parts.Forward column)) (loaded_readable table head column of_table own).placed
+
+module _ (query : BoundQuery) (table : Table) (head : Seen) (column : ℕ) (named : query_names query column ≡ true) (none_indexed : indexed_for query table head ≡ []) where
+  -- the section of a column that it names was read
+  pub named_read : (name file bytes : List ℕ) (whole : Seen) (held : Option Files) (count : ℕ) (before entries : List Entry) → IsHead table name file bytes whole → IsPartOf whole head → IsHeadOf table head → AreNamedLoaded query head
+      → LogsScan query table held head count (Some before) (Some (before ++ entries)) → forward_length head column ≤ forward_bytes head column entries
+  named_read name file bytes whole held count before entries full part of_table loaded (inl (none, logs)) =
+      let own = loaded column named in
+      let at_most = columns_few table head column of_table own in
+      let n : ℕ = length table.schema.fields in
+      let plain : 0 + column ≡ column = omega arith in
+      let marked : get_or (names_in query table) column false ≡ true = get_or-map-range_with_len (query_names query) 0 n column column false at_most plain ∙ named in
+      let here = forward_there table head column of_table own in
+      all_given head (names_in query table) n (λ other lt is. (loaded_readable table head other of_table (loaded other (mark_named query table (names_in query table) refl other is))).placed)
+      column here.0 here.1 (section_long table name file bytes whole head full part of_table column own here.0 here.1) marked at_most before entries logs
+  named_read name file bytes whole held count before entries full part of_table loaded (inr (docs, left, count_is, between, indexes, rest)) =
+      let long : length (indexed_for query table head) ≡ 0 = ap length none_indexed in
+      absurd (let some = left.some in omega (arith, some, long))
+
 -- ---- a query of one conjunct
 
 module _ (query : BoundQuery) (table : Table) (head : Seen) (column : ℕ) (looked : IsLookedThrough query table head column) where
@@ -224,19 +251,4 @@ module _ (query : BoundQuery) (table : Table) (head : Seen) (column : ℕ) (look
 
   pub least_read : (name file bytes : List ℕ) (whole : Seen) (held : Option Files) (count : ℕ) (before entries : List Entry) → IsHead table name file bytes whole → IsPartOf whole head → IsHeadOf table head → AreNamedLoaded query head
       → LogsScan query table held head count (Some before) (Some (before ++ entries)) → forward_length head column ≤ forward_bytes head column entries
-  least_read name file bytes whole held count before entries full part of_table loaded (inl (none, logs)) =
-      let own = loaded column names_it in
-      let at_most = columns_few table head column of_table own in
-      let n : ℕ = length table.schema.fields in
-      let plain : 0 + column ≡ column = omega arith in
-      let marked : get_or (names_in query table) column false ≡ true = get_or-map-range_with_len (query_names query) 0 n column column false at_most plain ∙ names_it in
-      let here = there_is {P = λ _. Unit {0}} (place_in head.sections (parts.Forward column)) (loaded_readable table head column of_table own).placed (any_place (place_in head.sections (parts.Forward column))) in
-      all_given head (names_in query table) n (λ other lt is. (loaded_readable table head other of_table (loaded other (mark_named query table (names_in query table) refl other is))).placed)
-      column here.0 here.1 (section_long table name file bytes whole head full part of_table column own here.0 here.1) marked at_most before entries logs
-    where
-      any_place : (o : Option Place) → IfSome o (λ _. Unit {0})
-      any_place None = tt
-      any_place (Some place) = tt
-  least_read name file bytes whole held count before entries full part of_table loaded (inr (docs, left, count_is, between, indexes, rest)) =
-      let long : length (indexed_for query table head) ≡ 0 = ap length none_indexed in
-      absurd (let some = left.some in omega (arith, some, long))
+  least_read = named_read query table head column names_it none_indexed

@@ -5,7 +5,7 @@ use Rattle.std.specs.List.{find}
 use Rattle.std.proofs.lemmas.Bool.{eqb-true, ltb-false, ltb-true}
 use Rattle.std.proofs.lemmas.List.{get_or_append_left, get_or-append_right, length-append, length-map}
 use Rattle.std.proofs.lemmas.List.Elements.{All-append, All-cons, All-map, All-weaker}
-use Rattle.std.proofs.lemmas.List.FromFn.{length-range_with_len}
+use Rattle.std.proofs.lemmas.List.FromFn.{get_or-map-range_with_len, length-range_with_len}
 use Rattle.std.proofs.lemmas.List.Sums.{sum_by-cons}
 use Rattle.outside.specs.declared.place.Place.{Place}
 use Rattle.values.specs.declared.value.Value.{Value}
@@ -20,9 +20,9 @@ use Rattle.segment_file.specs.declared.part.Part.TheVariants as parts
 use Rattle.segment_file.specs.Front.{Front, extents_from, extents_of, front_size}
 use Rattle.segment_head.specs.Heads.{place_in, placed}
 use Rattle.segment_file.specs.Image.{count_of, front_of, ids_of, section_of}
-use Rattle.segment_file.specs.Parts.{columns_of, head_sections, is_same, kind_of, marked, owner_of, raw_sections, sections_of, trees_of}
+use Rattle.segment_file.specs.Parts.{columns_of, head_sections, is_same, kind_of, marked, owner_of, raw_sections, sections_of, tail_sections, trees_of}
 use Rattle.segment_scan.proofs.ImageLemmas.{ids-below, ids-count}
-use Rattle.segment_reads.specs.Reads.{forward_span, raw_span, star_span}
+use Rattle.segment_reads.specs.Reads.{column_span, forward_span, raw_span, star_span}
 use Rattle.segment_reads.proofs.LogLemmas.{fewer_summed}
 use Rattle.segment_head.proofs.SectionLemmas.{first_true, rest_true}
 use Rattle.segment_head.specs.declared.stored.Stored.{Stored}
@@ -116,6 +116,17 @@ forward_kinds table =
     (All-weaker (λ p. kind_of p < 4) (λ p. kind_of p < 5) (λ p lt. omega (arith, lt)) (head_sections table) (head_kinds table))
     (made_kind parts.Forward (λ k. k < 5) (columns_of table) (λ n. omega arith))
 
+-- and those that follow them
+behind_kinds : (table : Table) → All (λ p. 4 < kind_of p) (indexes table ++ map parts.Star (trees_of table))
+behind_kinds table =
+    let P : Part → Type 0 = λ p. 4 < kind_of p in
+    All-append P (indexes table) (map parts.Star (trees_of table))
+    (All-append P (map parts.Sorted (option_to_list table.settings.sorted)) (map parts.Inverted (marked table.settings.inverted) ++ map parts.Range (marked table.settings.ranged))
+    (made_kind parts.Sorted (λ k. 4 < k) (option_to_list table.settings.sorted) (λ n. omega arith))
+    (All-append P (map parts.Inverted (marked table.settings.inverted)) (map parts.Range (marked table.settings.ranged)) (made_kind parts.Inverted (λ k. 4 < k) (marked table.settings.inverted) (λ n. omega arith))
+    (made_kind parts.Range (λ k. 4 < k) (marked table.settings.ranged) (λ n. omega arith))))
+    (made_kind parts.Star (λ k. 4 < k) (trees_of table) (λ n. omega arith))
+
 star_kinds : (table : Table) → All (λ p. 7 < kind_of p) (map parts.Star (trees_of table))
 star_kinds table = made_kind parts.Star (λ k. 7 < k) (trees_of table) (λ n. omega arith)
 
@@ -144,9 +155,9 @@ index_after : (table : Table) (at : ℕ) → 4 < kind_of (get_or (sections_of ta
 index_after table at kind =
     not_before at (to_forward table) (indexes table ++ map parts.Star (trees_of table)) (forward_kinds table) (subst (λ l. 4 < kind_of (get_or l at parts.Table)) (forward_first table) kind)
 
--- a section that belongs to no star-tree's documents stands before these
-not_after : (at : ℕ) (xs ys : List Part) → All (λ p. 7 < kind_of p) ys → at < length (xs ++ ys) → kind_of (get_or (xs ++ ys) at parts.Table) < 8 → at < length xs
-not_after at xs ys all at_most kind = by (nat_lt at (length xs)) refl
+-- a section of a kind up to some one stands before those of the kinds after it
+not_after : (last at : ℕ) (xs ys : List Part) → All (λ p. last < kind_of p) ys → at < length (xs ++ ys) → kind_of (get_or (xs ++ ys) at parts.Table) ≤ last → at < length xs
+not_after last at xs ys all at_most kind = by (nat_lt at (length xs)) refl
   where
     by : (v : Bool) → nat_lt at (length xs) ≡ v → at < length xs
     by true is = ltb-true at (length xs) is
@@ -159,8 +170,27 @@ not_after at xs ys all at_most kind = by (nat_lt at (length xs)) refl
 raw_before : (table : Table) (at : ℕ) → at < length (sections_of table) → kind_of (get_or (sections_of table) at parts.Table) < 8 → at < length (head_sections table) + length (raw_sections table)
 raw_before table at at_most kind =
     let here : at < length (head_sections table ++ raw_sections table) =
-    not_after at (head_sections table ++ raw_sections table) (map parts.Star (trees_of table)) (star_kinds table) (subst (λ l. at < length l) (stars_last table) at_most) (subst (λ l. kind_of (get_or l at parts.Table) < 8) (stars_last table) kind) in
+    not_after 7 at (head_sections table ++ raw_sections table) (map parts.Star (trees_of table)) (star_kinds table) (subst (λ l. at < length l) (stars_last table) at_most)
+    (let low : kind_of (get_or ((head_sections table ++ raw_sections table) ++ map parts.Star (trees_of table)) at parts.Table) < 8 = subst (λ l. kind_of (get_or l at parts.Table) < 8) (stars_last table) kind in omega (arith, low)) in
     omega (arith, here, length-append (head_sections table) (raw_sections table))
+
+-- the forward index of a column is the section of that number after those of the head
+forward_at : (table : Table) (at column : ℕ) → at < length (sections_of table) → get_or (sections_of table) at parts.Table ≡ parts.Forward column → at ≡ length (head_sections table) + column
+forward_at table at column within is =
+    let heads : ℕ = length (head_sections table) in
+    let behind : List Part = indexes table ++ map parts.Star (trees_of table) in
+    let kind : kind_of (get_or (sections_of table) at parts.Table) ≡ 4 = ap kind_of is in
+    let first : heads ≤ at = not_less at heads (λ lt. let low = head_kinds table at parts.Table lt in let same = ap kind_of (get_or_append_left (head_sections table) (tail_sections table) parts.Table at lt) in omega (arith, low, same, kind)) in
+    let there : get_or (to_forward table ++ behind) at parts.Table ≡ parts.Forward column = subst (λ l. get_or l at parts.Table ≡ parts.Forward column) (forward_first table) is in
+    let low : kind_of (get_or (to_forward table ++ behind) at parts.Table) ≡ 4 = ap kind_of there in
+    let last : at < length (to_forward table) = not_after 4 at (to_forward table) behind (behind_kinds table) (subst (λ l. at < length l) (forward_first table) within) (omega (arith, low)) in
+    let own : get_or (map parts.Forward (columns_of table)) (at - heads) parts.Table ≡ parts.Forward column =
+    sym (get_or-append_right (head_sections table) (map parts.Forward (columns_of table)) heads at parts.Table refl first) ∙ sym (get_or_append_left (to_forward table) behind parts.Table at last) ∙ there in
+    let plain : 0 + (at - heads) ≡ at - heads = omega arith in
+    let made : get_or (map parts.Forward (columns_of table)) (at - heads) parts.Table ≡ parts.Forward (at - heads) =
+    get_or-map-range_with_len parts.Forward 0 (length table.schema.fields) (at - heads) (at - heads) parts.Table (let count = to_forward_count table in omega (arith, count, last, first)) plain in
+    let same : at - heads ≡ column = ap owner_of (sym made ∙ own) in
+    omega (arith, same, first)
 
 -- ---- the sections of the rows of an image
 
@@ -199,6 +229,16 @@ module _ (table : Table) (segment : Stored) (rows : List (List Value)) where
             let less = fewer_summed front.sizes (length (head_sections table) + length table.schema.fields) f.at (omega (arith, behind, count)) in
             omega (arith, from, less);
       }
+
+  -- the forward index of a column has its own part of the file
+  pub column_place : (column : ℕ) (place : Place) → place_in (map (placed segment.file) (extents_of table segment.name front)) (parts.Forward column) ≡ Some place
+      → (place.offset ≡ (column_span table segment.name rows column).from) × (place.offset + place.length ≡ (column_span table segment.name rows column).to)
+  column_place column place is =
+      let f = found_at segment.file (parts.Forward column) place (front_size table segment.name) (sections_of table) front.sizes is in
+      let own : get_or (sections_of table) f.at parts.Table ≡ parts.Forward column = same_part (get_or (sections_of table) f.at parts.Table) (parts.Forward column) f.same (omega arith) in
+      let there : f.at ≡ length (head_sections table) + column = forward_at table f.at column f.at_most own in
+      let next : suc f.at ≡ length (head_sections table) + column + 1 = omega (arith, there) in
+      (f.from ∙ ap (λ n. front_size table segment.name + sum (take n front.sizes)) there, f.to ∙ ap (λ n. front_size table segment.name + sum (take n front.sizes)) next)
 
   -- the documents of the star-trees follow
   pub stars_after : (t : ℕ) → (raw_span table segment.name rows).to ≤ (star_span table segment.name rows t).from

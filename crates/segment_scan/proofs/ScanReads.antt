@@ -1,11 +1,13 @@
 -- How many bytes a scan reads of the forward indexes of an image, and that it reads none of the documents of its star-trees.
 use Rattle.std.proofs.Common.{◌≡◌, ◌∙◌, ◌*◌, ◌+◌, ◌⊎◌, ◌<◌, ◌≤◌, ◌++◌, [], ◌∷◌, ℕ, suc, Bool, true, false, List, Option, Some, inl, inr, length, map, get_or, option_map, refl, sym, ap, subst, arith}
+use Rattle.std.specs.Option.{option_map_or}
 use Rattle.std.specs.Prelude.{if◌then◌else◌}
 use Rattle.std.proofs.lemmas.Bool.{false≢true}
 use Rattle.std.proofs.lemmas.List.{length-map}
 use Rattle.std.proofs.lemmas.List.FromFn.{length-range_with_len}
 use Rattle.outside.specs.Files.{Files}
-use Rattle.outside.specs.Reads.{Entry}
+use Rattle.outside.specs.Reads.{Entry, read_in}
+use Rattle.outside.specs.declared.place.Place.{Place}
 use Rattle.outside.proofs.ReadLemmas.{read_in-append}
 use Rattle.values.specs.declared.value.Value.{Value}
 use Rattle.table_schema.specs.declared.query.BoundQuery.{BoundQuery}
@@ -13,8 +15,9 @@ use Rattle.table_schema.specs.declared.query.Conjunct.{Conjunct}
 use Rattle.table_schema.specs.declared.table.Table.{Table}
 use Rattle.table_schema.specs.ValidTable.{IsValidTable}
 use Rattle.segment_file.specs.Front.{extents_of}
-use Rattle.segment_head.specs.Heads.{IsHeadOf, Seen, placed}
-use Rattle.segment_file.specs.Image.{front_of}
+use Rattle.segment_head.specs.Heads.{IsHeadOf, Seen, place_in, placed}
+use Rattle.segment_file.specs.declared.part.Part.TheVariants as parts
+use Rattle.segment_file.specs.Image.{front_of, image, section_of}
 use Rattle.segment_file.specs.Ordered.{ordered}
 use Rattle.segment_plan.specs.Laws.{TellsOf}
 use Rattle.segment_plan.specs.declared.plans.IndexChoice.{IndexChoice}
@@ -39,11 +42,12 @@ use Rattle.segment_scan.proofs.LeftImage.{left_count, rest_loaded, sure_names, w
 use Rattle.index_filter.proofs.LeftLemmas.{one_chosen}
 use Rattle.segment_scan.proofs.SegmentLemmas.{mark_named}
 use Rattle.segment_reads.specs.Logs.{EndsBy, LogsThat}
-use Rattle.segment_reads.specs.Reads.{Grown, ReadsScan, bytes_read, forward_span, marked_count, raw_span, star_span}
+use Rattle.segment_reads.specs.Reads.{Grown, ReadsScan, bytes_read, column_span, forward_span, marked_count, raw_span, star_span}
 use Rattle.segment_reads.proofs.GrownLemmas.{grown_so, grown_that}
 use Rattle.segment_scan.proofs.IndexReads.{LiesBehind, indexed_behind, indexed_partly}
 use Rattle.segment_reads.proofs.LogLemmas.{entries_as, entries_then, join_logs}
-use Rattle.segment_scan.proofs.PartPlaces.{stars_after}
+use Rattle.segment_scan.proofs.LeastLemmas.{forward_there, named_read}
+use Rattle.segment_scan.proofs.PartPlaces.{column_place, raw_place, stars_after}
 use Rattle.segment_reads.proofs.PartLogs.{at_place}
 use Rattle.segment_reads.proofs.SpanLemmas.{before_part}
 use Rattle.segment_scan.proofs.WithinLogs.{after_part, lies_end, part_that, read_few, series_that}
@@ -241,23 +245,30 @@ module _ (query : BoundQuery) (table : Table) (segment : Stored) (head : Seen) (
         let own = parts_partly docs left between b logs in
         (most_then most a between b (none_behind a between behind) own.0, entries_then Early a between b (early_behind a between behind) own.1)
 
+    -- where no conjunct is indexed, reads gave the forward index of each column that the query names
+    abbrev AreWhole : ScanPlan → List Entry → Type 0
+    AreWhole plan entries =
+        indexed plan.choices query.conjuncts ≡ [] → (column : ℕ) → query_names query column ≡ true → length (section_of table rows (parts.Forward column)) ≤ bytes_read entries segment (column_span table segment.name rows column)
+
     -- such reads are those of the scan
-    reads_so : (plan : ScanPlan) (a b : Option (List Entry)) → plan.choices ≡ choices_for query table head → n ≡ docs_by query table rows (Scan plan) → LogsMost most a b × LogsThat Early a b → Grown (ReadsScan query table segment rows plan) a b
-    reads_so plan a b chosen counted ((x, made, less), early) = λ before entries is now. record {
+    reads_so : (plan : ScanPlan) (answered : Bool) (a b : Option (List Entry)) → plan.choices ≡ choices_for query table head → n ≡ docs_by query table rows (Scan plan) → LogsMost most a b × LogsThat Early a b
+        → (answered ≡ true → Grown (AreWhole plan) a b) → Grown (ReadsScan query table segment rows plan answered) a b
+    reads_so plan answered a b chosen counted ((x, made, less), early) whole = λ before entries is now. record {
       stars = λ t. before_part segment.file (raw_span table segment.name rows).to (star_span table segment.name rows t).from (star_span table segment.name rows t).to entries (stars_after table segment rows t)
           (grown_that (EndsBy segment.file (raw_span table segment.name rows).to) a b (lies_end segment.file 0 (raw_span table segment.name rows).to a b early) before entries is now);
       forward = subst (λ m. bytes_read entries segment (forward_span table segment.name rows) ≤ m) same (grown_so (λ y. bytes_read y segment (forward_span table segment.name rows) ≤ most) a b x made less before entries is now);
+      whole = λ done. whole done before entries is now;
     }
       where
         same : most ≡ 4 * docs_by query table rows (Scan plan) * marked_count (names_in (rest_of query plan.choices) table)
         same = (λ i. 4 * counted i * marked_count (names_in (rest_of query (sym chosen i)) table))
 
     -- what a scan read, whole or in part
-    pub scan_read : (plan : ScanPlan) (count : ℕ) (a b : Option (List Entry)) → plan.choices ≡ choices_for query table head → n ≡ docs_by query table rows (Scan plan) → LogsScan query table held head count a b → Grown (ReadsScan query table segment rows plan) a b
-    scan_read plan count a b chosen counted logs = reads_so plan a b chosen counted (scan_bytes count a b logs)
+    pub scan_read : (plan : ScanPlan) (count : ℕ) (a b : Option (List Entry)) → plan.choices ≡ choices_for query table head → n ≡ docs_by query table rows (Scan plan) → Grown (AreWhole plan) a b → LogsScan query table held head count a b → Grown (ReadsScan query table segment rows plan true) a b
+    scan_read plan count a b chosen counted whole logs = reads_so plan true a b chosen counted (scan_bytes count a b logs) (λ done. whole)
 
-    pub scan_read_partly : (plan : ScanPlan) (a b : Option (List Entry)) → plan.choices ≡ choices_for query table head → n ≡ docs_by query table rows (Scan plan) → LogsScanPartly query table held head a b → Grown (ReadsScan query table segment rows plan) a b
-    scan_read_partly plan a b chosen counted logs = reads_so plan a b chosen counted (partly_bytes a b logs)
+    pub scan_read_partly : (plan : ScanPlan) (a b : Option (List Entry)) → plan.choices ≡ choices_for query table head → n ≡ docs_by query table rows (Scan plan) → LogsScanPartly query table held head a b → Grown (ReadsScan query table segment rows plan false) a b
+    scan_read_partly plan a b chosen counted logs = reads_so plan false a b chosen counted (partly_bytes a b logs) (λ done. absurd (false≢true done))
 
 -- ---- where the file is told to be the image of rows
 
@@ -276,10 +287,28 @@ module _ (law : ImagesRead) (leave : ImagesLeave) (query : BoundQuery) (table : 
   some_docs : (docs : List ℕ) → AreLeftFor query table (Some files) head docs → length docs ≡ docs_by query table os (Scan plan)
   some_docs docs left = left_count law leave query table head valid of_table loaded docs files stored of left ∙ left_are
 
+  -- where no conjunct is indexed it read the forward index of each column that the query names
+  whole_read : (count : ℕ) (before entries : List Entry) → LogsScan query table (Some files) head count (Some before) (Some (before ++ entries)) → indexed plan.choices query.conjuncts ≡ [] → (column : ℕ) → query_names query column ≡ true
+      → length (section_of table (ordered table.settings.sorted stored) (parts.Forward column)) ≤ bytes_read entries segment (column_span table segment.name (ordered table.settings.sorted stored) column)
+  whole_read count before entries logs none column named =
+      let (place, at) = forward_there table head column of_table (loaded column named) in
+      let here : place_in (map (placed segment.file) (extents_of table segment.name (front_of 1 table os))) (parts.Forward column) ≡ Some place = subst (λ l. place_in l (parts.Forward column) ≡ Some place) sections at in
+      let own = raw_place table segment os (parts.Forward column) place (omega arith) (omega arith) here in
+      let (begins, ends) = column_place table segment os column place here in
+      let none_for : indexed_for query table head ≡ [] = ap (λ cs. indexed cs query.conjuncts) (sym chosen) ∙ none in
+      let read = named_read query table head column named none_for of.name of.file (image 1 table of.name stored) of.whole (Some files) count before entries of.is_head of.part of_table loaded logs in
+      let plain : place.length ≤ read_in entries place.file place.offset (place.offset + place.length) =
+      subst (λ o. option_map_or (λ (p : Place). p.length) o 0 ≤ option_map_or (λ (p : Place). read_in entries p.file p.offset (p.offset + p.length)) o 0) at read in
+      let moved : bytes_read entries segment (column_span table segment.name os column) ≡ read_in entries place.file place.offset (place.offset + place.length) = (λ i. read_in entries (sym own.file_is i) (sym begins i) (sym ends i)) in
+      let long = own.long in
+      omega (arith, plain, moved, long)
+
   -- a scan read at most four bytes of the forward indexes for each document that the indexes leave and each column that is named beside the served conjuncts
-  pub image_scan : (count : ℕ) (a b : Option (List Entry)) → LogsScan query table (Some files) head count a b → Grown (ReadsScan query table segment os plan) a b
-  image_scan count a b logs = scan_read query table segment head os of_table loaded sections tells (Some files) (docs_by query table os (Scan plan)) all_rows some_docs plan count a b chosen refl logs
+  pub image_scan : (count : ℕ) (a b : Option (List Entry)) → LogsScan query table (Some files) head count a b → Grown (ReadsScan query table segment os plan true) a b
+  image_scan count a b logs =
+      scan_read query table segment head os of_table loaded sections tells (Some files) (docs_by query table os (Scan plan)) all_rows some_docs plan count a b chosen refl
+      (λ before entries is now. whole_read count before entries (subst (LogsScan query table (Some files) head count (Some before)) now (subst (λ l. LogsScan query table (Some files) head count l b) is logs))) logs
 
   -- and no more where it failed
-  pub image_scan_partly : (a b : Option (List Entry)) → LogsScanPartly query table (Some files) head a b → Grown (ReadsScan query table segment os plan) a b
+  pub image_scan_partly : (a b : Option (List Entry)) → LogsScanPartly query table (Some files) head a b → Grown (ReadsScan query table segment os plan false) a b
   image_scan_partly a b logs = scan_read_partly query table segment head os of_table loaded sections tells (Some files) (docs_by query table os (Scan plan)) all_rows some_docs plan a b chosen refl logs

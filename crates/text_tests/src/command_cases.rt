@@ -4,11 +4,13 @@
 //! commands after it, that text, a column of so many ones, or one of the numbers from 1 on; `stored
 //! NAME TEXT` gives a published file of the store, and `segments COUNT` so many with names of
 //! segments' files, from `g1.seg` on. The calls that fail are `DEVICE:NUMBER`, with blanks between
-//! them, or `DEVICE:NUMBER..` for all from one on; in their place `then` keeps the devices of the
-//! command before, `again` keeps the published files alone, as after a restart, `long` says of
-//! every input file that it is too long, and `length 0`, `length + 1` and `length - 1` say
-//! something false of its length. A word `pad COUNT TEXT` is the text with so many bytes, by blanks
-//! at its end. The word `open?` opens the table, and `file?` shows its file.
+//! them, or `DEVICE:NUMBER..` for all from one on. In their place `then` keeps the devices of the
+//! command before, `again` keeps the published files alone, as after a restart, and `long` says of
+//! every input file that it is too long. `length 0`, `length + 1` and `length - 1` say something
+//! false of the length of every input file, the same with `stored` of that of every published
+//! file, and with `segments` of those with names of segments. A word `pad COUNT TEXT` is the text
+//! with so many bytes, by blanks at its end. The word `open?` opens the table, and `file?` shows
+//! its file.
 
 use crate::cases::Report;
 use crate::counting::Span;

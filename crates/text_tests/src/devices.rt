@@ -1,8 +1,9 @@
 //! The devices of a command, in memory.
 
 use crate::counting::{CountingDepot, Span, fresh_spans};
-use crate::inputs::{Inputs, Told};
+use crate::inputs::Inputs;
 use crate::text::{Text, meaning, number, parted};
+use crate::told::Told;
 use memory_devices::{MemoryDepot, MemoryShelf, MemorySink};
 use outside::{Bytes, Name, NoMemory, Seq, read_all};
 use pinot_run::run_command;
@@ -45,6 +46,16 @@ const LENGTHS: &[(&str, Told)] = &[
     ("length 0", Told::Zero),
     ("length + 1", Told::More),
     ("length - 1", Told::Less),
+];
+
+// What is said of the lengths of stored files whose names end so, in the place of calls that fail.
+const STORED_LENGTHS: &[(&str, (&str, Told))] = &[
+    ("stored 0", ("", Told::Zero)),
+    ("stored + 1", ("", Told::More)),
+    ("stored - 1", ("", Told::Less)),
+    ("segments 0", (".seg", Told::Zero)),
+    ("segments + 1", (".seg", Told::More)),
+    ("segments - 1", (".seg", Told::Less)),
 ];
 
 // The most calls of a stream, or of the input files, in a case in which they fail from one on.
@@ -127,7 +138,8 @@ fn store(
         Some(after) => MemoryDepot::stopping(alloc, stored, after)?,
         None => MemoryDepot::new(alloc, stored, failing(alloc, calls, "depot"))?,
     };
-    Ok(CountingDepot::new(depot, fresh_spans(alloc, spans)))
+    let told = meaning(STORED_LENGTHS, calls).unwrap_or(("", Told::Truth));
+    Ok(CountingDepot::new(depot, fresh_spans(alloc, spans), told))
 }
 
 // Input files, of which these calls fail.
@@ -141,7 +153,8 @@ impl Devices {
     /// Devices with these input files and published files. The calls that fail are
     /// `DEVICE:NUMBER`, from 0 on, with blanks between them, or `DEVICE:NUMBER..` for all from one
     /// on; in their place `long`, `length 0`, `length + 1` or `length - 1` is what is said of each
-    /// input file's length.
+    /// input file's length, and so with `stored` of each published file's, or with `segments` of
+    /// each segment's.
     pub fn new(alloc: Global, files: Files, stored: Files, spans: &[Span], calls: &str) -> Devices {
         Devices {
             inputs: inputs_of(alloc, files, calls),

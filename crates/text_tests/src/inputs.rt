@@ -1,23 +1,9 @@
 //! Input files in memory, of whose lengths something false may be said.
 
+use crate::told::Told;
 use memory_devices::MemoryShelf;
 use outside::{Name, ReadResult, Seq, Shelf, ShelfFault};
 use std::alloc::Global;
-
-/// What is said of the length of a file.
-#[derive(Clone, Copy)]
-pub enum Told {
-    /// How long it is.
-    Truth,
-    /// One byte more than the longest that a command reads, of every name.
-    Long,
-    /// That it is empty.
-    Zero,
-    /// One byte more than it has.
-    More,
-    /// One byte less than it has.
-    Less,
-}
 
 /// Files in memory, and what is said of their lengths.
 #[derive(Drop)]
@@ -48,12 +34,7 @@ impl Shelf for Inputs {
             return Ok(134_217_729);
         }
         let length = self.files.length(alloc, name)?;
-        Ok(match self.told {
-            Told::Truth | Told::Long => length,
-            Told::Zero => 0,
-            Told::More => length.saturating_add(1),
-            Told::Less => length.saturating_sub(1),
-        })
+        Ok(self.told.of(length))
     }
 
     fn read_at(&mut self, alloc: Global, name: &str, offset: u64, into: &mut [u8]) -> ReadResult {

@@ -15,6 +15,7 @@ mod schemas;
 mod settings;
 mod subject;
 mod text;
+mod told;
 mod trees;
 
 use cases::{Report, run_cases};

@@ -34,8 +34,8 @@ key_at-requires c =
     let within = (c.requires.may.holds.firsts k c.requires.key).within (omega (arith, first, c.if-first-eq0.false)) in
     omega (arith, within, first)
 
-pub states_at-requires : goal.states_at-requires
-states_at-requires c =
+pub fill_states-requires : goal.fill_states-requires
+fill_states-requires c =
     let q = c.args.query.now in
     let rows = c.args.rows in
     let segment = rows.segment.now in
@@ -60,7 +60,7 @@ merge_row-requires-clause-kinds c =
     let keys : List ℕ = c.requires.may.keys in
     let holds = c.requires.may.holds in
     let run : List (List Value) = run_of rows keys k in
-    let row_is : c.in_ok-states.states ≡ states_of q.aggs run = c.in_ok-states.ensures ∙ row-states (length firsts) keys (passed_rows rows) q.aggs owns k holds.states c.requires.key in
+    let row_is : c.fill_states.new.row ≡ states_of q.aggs run = c.in_ok-fill_states.ensures ∙ row-states (length firsts) keys (passed_rows rows) q.aggs owns k holds.states c.requires.key in
     ap kinds_of row_is ∙ kinds_states q.aggs run ∙ sym c.requires.table.kinds
 
 pub merge_row-requires-clause-values : goal.merge_row-requires-clause-values
@@ -76,7 +76,7 @@ merge_row-requires-clause-values c =
     let keys : List ℕ = c.requires.may.keys in
     let holds = c.requires.may.holds in
     let run : List (List Value) = run_of rows keys k in
-    let row_is : c.in_ok-states.states ≡ states_of q.aggs run = c.in_ok-states.ensures ∙ row-states (length firsts) keys (passed_rows rows) q.aggs owns k holds.states c.requires.key in
+    let row_is : c.fill_states.new.row ≡ states_of q.aggs run = c.in_ok-fill_states.ensures ∙ row-states (length firsts) keys (passed_rows rows) q.aggs owns k holds.states c.requires.key in
     let some : 0 < get_or firsts k 0 = omega (arith, first, c.if-first-eq0.false) in
     let values : c.in_ok-own.own ≡ key_of q.groups (row_of (table_of segment).columns (get_or firsts k 0 - 1)) =
     c.in_ok-own.ensures ∙ ap (λ (gs : List ℕ). key_of gs (row_of (table_of segment).columns (c.index-first.result.now - 1))) c.as_slice-columns.ensures
@@ -97,10 +97,10 @@ merge_row-requires-clause-fits c =
     let keys : List ℕ = c.requires.may.keys in
     let holds = c.requires.may.holds in
     let run : List (List Value) = run_of rows keys k in
-    let fits : RowFits c.in_ok-states.states (length run) = subst (λ (s : List AggState). RowFits s (length run)) (sym c.in_ok-states.ensures) (row-fits (length firsts) keys (passed_rows rows) q.aggs owns k holds.states c.requires.key) in
+    let fits : RowFits c.fill_states.new.row (length run) = subst (λ (s : List AggState). RowFits s (length run)) (sym c.in_ok-fill_states.ensures) (row-fits (length firsts) keys (passed_rows rows) q.aggs owns k holds.states c.requires.key) in
     let at_most : length run ≤ most_values =
     omega (arith, in_slot-few k keys (passed_rows rows), length-map places (row_of (table_of segment).columns), passed-few rows, segment.coded.at_most) in
-    merged_within (groups_in (in_pool c.args.table.now c.args.pool.now)) c.in_ok-own.own c.in_ok-states.states (length run) at_most c.requires.may.fits fits
+    merged_within (groups_in (in_pool c.args.table.now c.args.pool.now)) c.in_ok-own.own c.fill_states.new.row (length run) at_most c.requires.may.fits fits
 
 pub returns-then-first-eq0-clause-adds : goal.returns-then-first-eq0-clause-adds
 returns-then-first-eq0-clause-adds c = λ keys holds.
@@ -158,15 +158,15 @@ returns-clause-adds c = λ keys holds.
     let k : ℕ = c.args.key in
     let first : c.index-first.result.now ≡ get_or firsts k 0 = c.index-first.ensures ∙ get_or_default firsts k c.index-first.result.now 0 c.requires.key in
     let run : List (List Value) = run_of rows keys k in
-    let row_is : c.in_ok-states.states ≡ states_of q.aggs run = c.in_ok-states.ensures ∙ row-states (length firsts) keys (passed_rows rows) q.aggs owns k holds.states c.requires.key in
-    let fits : RowFits c.in_ok-states.states (length run) = subst (λ (s : List AggState). RowFits s (length run)) (sym c.in_ok-states.ensures) (row-fits (length firsts) keys (passed_rows rows) q.aggs owns k holds.states c.requires.key) in
+    let row_is : c.fill_states.new.row ≡ states_of q.aggs run = c.in_ok-fill_states.ensures ∙ row-states (length firsts) keys (passed_rows rows) q.aggs owns k holds.states c.requires.key in
+    let fits : RowFits c.fill_states.new.row (length run) = subst (λ (s : List AggState). RowFits s (length run)) (sym c.in_ok-fill_states.ensures) (row-fits (length firsts) keys (passed_rows rows) q.aggs owns k holds.states c.requires.key) in
     let some : 0 < get_or firsts k 0 = omega (arith, first, c.if-first-eq0.false) in
     let values : c.in_ok-own.own ≡ key_of q.groups (row_of (table_of segment).columns (get_or firsts k 0 - 1)) =
     c.in_ok-own.ensures ∙ ap (λ (gs : List ℕ). key_of gs (row_of (table_of segment).columns (c.index-first.result.now - 1))) c.as_slice-columns.ensures
     ∙ ap (λ (f : ℕ). key_of q.groups (row_of (table_of segment).columns (f - 1))) first in
     let r : IsRun q.groups c.in_ok-own.own run = key-run segment q.groups q.aggs keys places c.args.keyed.now holds k c.in_ok-own.own c.requires.key some values in
     record {
-      ok = adds_run q (length run) run c.in_ok-own.own c.in_ok-states.states (in_pool c.args.table.now c.args.pool.now) (in_pool c.merge_row.new.self c.merge_row.new.pool) c.requires.table r row_is fits c.in_default.ensures.ok;
+      ok = adds_run q (length run) run c.in_ok-own.own c.fill_states.new.row (in_pool c.args.table.now c.args.pool.now) (in_pool c.merge_row.new.self c.merge_row.new.pool) c.requires.table r row_is fits c.in_default.ensures.ok;
       full = λ bad. absurd cc;
       filled = λ bad. absurd cc;
     }

@@ -14,7 +14,7 @@ put_cell-requires-clause-cells c =
     let column = c.index-columns-k.result in
     let lt : k < length columns = omega (arith, c.cells-test.true) in
     let has = subst (HasRow c.args.row) (sym c.index-columns-k.is) (All-get_or (HasRow c.args.row) columns k column lt c.requires.row) in
-    let texts : List (List ℕ) = cell_texts k (length columns) (values_of column.values) in
+    let texts : List (List ℕ) = cell_texts k (length columns) (values_of column) in
     let own = c.requires.cells.each k column c.index-cells-k.result lt (at_of columns k column lt c.index-columns-k.is) (at_of c.args.cells.now k c.index-cells-k.result (omega (arith, lt, c.requires.cells.many)) c.index-cells-k.is) in
     (texts, own, subst (λ n. n < length texts) (sym (c.at.ensures ∙ ap (λ (x : CodedColumn). get_or (ids_of x.ids) c.args.row 0) (sym c.index-columns-k.is))) (cell_placed k (length columns) c.args.row column has))
 
@@ -27,7 +27,7 @@ cells-preserved c =
     let next : k + 1 < length columns = omega (arith, c.cells-test.true) in
     let lt : k < length columns = omega (arith, next) in
     let has = subst (HasRow row) (sym c.index-columns-k.is) (All-get_or (HasRow row) columns k column lt c.requires.row) in
-    let texts : List (List ℕ) = cell_texts k (length columns) (values_of column.values) in
+    let texts : List (List ℕ) = cell_texts k (length columns) (values_of column) in
     let own = c.requires.cells.each k column c.index-cells-k.result lt (at_of columns k column lt c.index-columns-k.is) (at_of c.args.cells.now k c.index-cells-k.result (omega (arith, lt, c.requires.cells.many)) c.index-cells-k.is) in
     let placed = subst (λ n. n < length texts) (sym (c.at.ensures ∙ ap (λ (x : CodedColumn). get_or (ids_of x.ids) c.args.row 0) (sym c.index-columns-k.is))) (cell_placed k (length columns) row column has) in
     row_step row columns k column c.args.text.now.items c.cells.text.items c.put_cell.new.text.items (get_or texts c.at.result []) c.args.at c.cells.end c.in_ok-end.end next c.index-columns-k.is c.cells.invariant
@@ -40,7 +40,7 @@ put_cell-requires-2-clause-cells c =
     let column = c.index-columns-last.result in
     let lt : k < length columns = omega (arith, c.requires.some) in
     let has = subst (HasRow c.args.row) (sym c.index-columns-last.is) (All-get_or (HasRow c.args.row) columns k column lt c.requires.row) in
-    let texts : List (List ℕ) = cell_texts k (length columns) (values_of column.values) in
+    let texts : List (List ℕ) = cell_texts k (length columns) (values_of column) in
     let own = c.requires.cells.each k column c.index-cells-last.result lt (at_of columns k column lt c.index-columns-last.is) (at_of c.args.cells.now k c.index-cells-last.result (omega (arith, lt, c.requires.cells.many)) c.index-cells-last.is) in
     (texts, own, subst (λ n. n < length texts) (sym (c.at-2.ensures ∙ ap (λ (x : CodedColumn). get_or (ids_of x.ids) c.args.row 0) (sym c.index-columns-last.is))) (cell_placed k (length columns) c.args.row column has))
 
@@ -53,7 +53,7 @@ returns c =
     let lt : k < length columns = omega (arith, c.requires.some) in
     let last : k + 1 ≡ length columns = omega (arith, c.requires.some) in
     let has = subst (HasRow row) (sym c.index-columns-last.is) (All-get_or (HasRow row) columns k column lt c.requires.row) in
-    let texts : List (List ℕ) = cell_texts k (length columns) (values_of column.values) in
+    let texts : List (List ℕ) = cell_texts k (length columns) (values_of column) in
     let own = c.requires.cells.each k column c.index-cells-last.result lt (at_of columns k column lt c.index-columns-last.is) (at_of c.args.cells.now k c.index-cells-last.result (omega (arith, lt, c.requires.cells.many)) c.index-cells-last.is) in
     let placed = subst (λ n. n < length texts) (sym (c.at-2.ensures ∙ ap (λ (x : CodedColumn). get_or (ids_of x.ids) c.args.row 0) (sym c.index-columns-last.is))) (cell_placed k (length columns) row column has) in
     let end : c.cells.k ≡ k = omega (arith, c.cells-test.false, c.cells.auto.k-end) in

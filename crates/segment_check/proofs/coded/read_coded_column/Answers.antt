@@ -3,7 +3,7 @@ use Rattle.outside.specs.Seen.{seen}
 use Rattle.outside.proofs.SeenLemmas.{reads_so}
 use Rattle.bit_column.specs.Column.{width_of}
 use Rattle.bit_column.specs.Sections.{AppendsRange, Readable, section}
-use Rattle.csv_text.specs.Coded.{ids_of, values_of}
+use Rattle.csv_text.specs.Coded.{ids_of}
 use Rattle.value_ids.specs.Coding.{AreBelow, values_at}
 use Rattle.segment_file.specs.declared.part.Part.TheVariants as parts
 use Rattle.segment_build.specs.FileReads.{LogsFile, file_up}
@@ -23,17 +23,16 @@ returns-in-Ok-clause-reads g c =
     let kept = c.in-Ok.ids in
     let e : AppendsRange old.held place (width_of count) count 0 head.rows [] (ids_of kept) =
     subst (λ rows. AppendsRange old.held place (width_of count) count 0 rows [] (ids_of kept)) c.rows.ensures c.in-Ok.ensures.ids in
-    let values = c.values_in.ensures in
     let below : AreBelow (length own.values) e.ids = subst (λ n. AreBelow n e.ids) c.count.ensures.count e.below in
     let many : length e.ids ≡ head.rows = omega (arith, e.number) in
     record {
       coded = record {
         count = ap length e.appended ∙ many;
-        below = subst (λ vs. AreBelow (length vs) (ids_of kept)) (sym values) (subst (AreBelow (length own.values)) (sym e.appended) below);
+        below = subst (AreBelow (length own.values)) (sym e.appended) below;
       };
       column_is = λ d asked.
-          column_made old.held head column place own d (width_of count) count e.ids (values_at (values_of c.values_in.result) (ids_of kept)) c.in-Some.ensures c.dictionary-dictionary.ensures asked c.count.ensures.count refl e.number e.below e.told
-          (ap (λ vs. values_at vs (ids_of kept)) values ∙ ap (values_at own.values) e.appended);
+          column_made old.held head column place own d (width_of count) count e.ids (values_at own.values (ids_of kept)) c.in-Some.ensures c.dictionary-dictionary.ensures asked c.count.ensures.count refl e.number e.below e.told
+          (ap (values_at own.values) e.appended);
       refused = tt;
       only_reads = reads_so _ _ old new (λ err. absurd cc) (λ err. absurd cc) c.in-Ok.ensures.reads.only_reads;
     }
