@@ -18,7 +18,7 @@ pub struct DocSet {
     kept: Kept,
 }
 
-// How the documents of a set are kept.
+/// How the documents of a set are kept.
 #[derive(Drop)]
 pub enum Kept {
     Runs(DocList),

@@ -1,5 +1,5 @@
-//! Ascending lists of documents, which are rows by their places in a segment, sets of them, and what
-//! two sets have in common or apart.
+//! Ascending lists of documents, which are rows by their places in a segment, sets of them, and
+//! what two sets have in common or apart.
 #![tactic(auto)]
 
 mod doc_list;

@@ -11,16 +11,6 @@ use std::alloc::Global;
 // So many marks are one word.
 const MARKS: u64 = 64;
 
-// Words with a bit for each document below one, none of them set.
-fn no_marks(alloc: Global, end: u64) -> Result<Vec<u64>, NoMemory>
-    requires { end ≤ 2 ^ 32 }
-    ensures size { IfOk result (λ marks. end ≤ 64 * length marks.items) }
-    ensures at_most { IfOk result (λ marks. length marks.items ≤ 2 ^ 26) }
-    ensures none { IfOk result (λ marks. MarkedBelow 0 marks.items) }
-{
-    vec![in alloc; 0; end.div_ceil(MARKS) as usize]
-}
-
 /// Marks for documents in any order.
 pub fn marks_of_docs(alloc: Global, rows: u32, docs: &[u32]) -> Result<Vec<u64>, NoMemory>
     requires { All (λ doc. doc < rows) docs.now }
@@ -29,6 +19,16 @@ pub fn marks_of_docs(alloc: Global, rows: u32, docs: &[u32]) -> Result<Vec<u64>,
     let mut marks = no_marks(alloc, rows as u64)?;
     mark_all(docs, &mut marks);
     Ok(marks)
+}
+
+// Words with a bit for each document below one, none of them set.
+fn no_marks(alloc: Global, end: u64) -> Result<Vec<u64>, NoMemory>
+    requires { end ≤ 2 ^ 32 }
+    ensures size { IfOk result (λ marks. end ≤ 64 * length marks.items) }
+    ensures at_most { IfOk result (λ marks. length marks.items ≤ 2 ^ 26) }
+    ensures none { IfOk result (λ marks. MarkedBelow 0 marks.items) }
+{
+    vec![in alloc; 0; end.div_ceil(MARKS) as usize]
 }
 
 // Marks these documents.
@@ -57,7 +57,8 @@ pub fn marks_of_runs(alloc: Global, runs: &[Run]) -> Result<Vec<u64>, NoMemory>
 fn mark_runs(runs: &[Run], marks: &mut [u64])
     requires apart { Apart 0 runs.now }
     requires room { next_from 0 runs.now ≤ 64 * length marks.old }
-    ensures { (doc : ℕ) → is_marked marks.new doc ≡ is_marked marks.old doc || in_runs runs.now doc }
+    ensures { (doc : ℕ) →
+        is_marked marks.new doc ≡ is_marked marks.old doc || in_runs runs.now doc }
 {
     for run in runs {
         mark_run(*run, marks);
@@ -108,7 +109,8 @@ fn keep_marks(marks: &mut [u64], others: &[u64])
 /// Adds the marks that others have, in as many words at most.
 pub fn add_marks(marks: &mut [u64], others: &[u64])
     requires { length others.now ≤ length marks.old }
-    ensures { (doc : ℕ) → is_marked marks.new doc ≡ is_marked marks.old doc || is_marked others.now doc }
+    ensures { (doc : ℕ) →
+        is_marked marks.new doc ≡ is_marked marks.old doc || is_marked others.now doc }
 {
     for at in 0..others.len() {
         marks[at] |= others[at];
