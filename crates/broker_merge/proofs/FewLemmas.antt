@@ -1,13 +1,13 @@
 -- Without group columns there is one group at most, and few groups are in order as they are.
-use Rattle.std.proofs.Common.{◌≡◌, ◌∙◌, ◌&&◌, ℕ, zero, suc, ◌<◌, ◌≤◌, Bool, true, false, List, [], ◌∷◌, length, nat_lt, take, refl, rules, tests, subst, sym, ap, arith}
-use Rattle.std.specs.List.{All, list_all, range_with_len, IsDistinct, AllByRecursion}
+use Rattle.std.proofs.Common.{◌≡◌, ◌∙◌, ◌&&◌, ℕ, zero, suc, ◌<◌, ◌≤◌, Bool, true, false, List, [], ◌∷◌, length, nat_lt, Option, Some, None, refl, rules, tests, subst, sym, ap, arith}
+use Rattle.std.specs.List.{All, list_all, IsDistinct, AllByRecursion}
 use Rattle.std.specs.Map.{keys_of}
 use Rattle.std.proofs.lemmas.List.{length-map}
 use Rattle.std.proofs.lemmas.List.Elements.{All-cons, All-nil}
-use Rattle.std.proofs.lemmas.List.Sorted.{IsPermutation-refl}
 use Rattle.std.proofs.lemmas.Map.Keys.{IsDistinct-head}
 use Rattle.values.specs.declared.value.Value.{Value}
-use Rattle.table_schema.specs.ValidQuery.{is_item}
+use Rattle.table_schema.specs.ValidQuery.{is_item, each_test, having_places, if_asked}
+use Rattle.table_schema.specs.declared.query.Having.{Having}
 use Rattle.table_schema.specs.declared.query.BoundQuery.{BoundQuery}
 use Rattle.table_schema.specs.declared.query.Item.{Item}
 use Rattle.table_schema.specs.declared.query.Item.TheVariants as item
@@ -15,9 +15,8 @@ use Rattle.table_schema.specs.declared.query.OrderKey.{OrderKey}
 use Rattle.group_table.specs.Groups.{Group}
 use Rattle.group_table.specs.Kept.{KeptGroups, IsGroup, IsTable, IsTableOf, key_eq}
 use Rattle.broker_merge.specs.Rank.{IsItem}
-use Rattle.broker_merge.specs.Ranked.{BeginInOrder}
-use Rattle.broker_merge.proofs.OrderLemmas.{is_in_order}
-use Rattle.broker_merge.proofs.RankLemmas.{all_groups, all_below}
+use Rattle.broker_merge.specs.Order.{in_order}
+use Rattle.broker_merge.specs.Having.{MayBeAsked}
 
 no_value : (key : List Value) → length key ≡ 0 → key ≡ []
 no_value [] e = refl
@@ -40,11 +39,10 @@ grouped t table two = by t.columns t.groups refl table.each table.once two
     by zero (a ∷ []) e each once h = absurd (omega arith)
     by zero (a ∷ b ∷ gs) e each once h = absurd (one_key a b gs (each.0.key ∙ sym e) (each.1.0.key ∙ sym e) once)
 
-pub at_most : (t : KeptGroups) (order : List OrderKey) (most : ℕ) → IsTable t → length t.groups < 2 → BeginInOrder t order most (range_with_len 0 (length t.groups))
-at_most t order most table h = record {
-  below = all_below (length t.groups);
-  groups = ap (take most) (sym (all_groups t) ∙ is_in_order order t.groups t.groups (IsPermutation-refl t.groups) table.once (λ k d low lt. absurd (omega arith)));
-}
+pub few_in_order : (order : List OrderKey) (gs : List Group) → length gs < 2 → gs ≡ in_order order gs
+few_in_order order [] h = refl
+few_in_order order (g ∷ []) h = refl
+few_in_order order (g ∷ h ∷ gs) lt = absurd (omega (arith, lt))
 
 -- ---- what a query names is of its table
 
@@ -69,3 +67,12 @@ keys_of_table q t of [] e = All-nil (λ k. IsItem t k.item)
 keys_of_table q t of (k ∷ ks) e =
     All-cons (λ k. IsItem t k.item) k ks (item_of_table q t of k.item (and_first (is_item q k.item) (list_all (λ k. is_item q k.item) ks) e))
     (keys_of_table q t of ks (and_second (is_item q k.item) (list_all (λ k. is_item q k.item) ks) e))
+
+-- and what it asks of groups
+pub asked_of_table : (q : BoundQuery) (t : KeptGroups) → IsTableOf q t → (o : Option Having) → if_asked (λ having. nat_lt 0 (length q.groups)) o ≡ true
+    → if_asked (having_places q.groups q.aggs) o ≡ true → MayBeAsked t o
+asked_of_table q t of None some places = tt
+asked_of_table q t of (Some h) some places = record {
+  grouped = subst (λ n. 0 < n) (sym of.columns) (below_so 0 (length q.groups) some);
+  tests = (λ i. each_test (λ place value. nat_lt place (of.columns i)) (λ place. nat_lt place ((ap length of.kinds ∙ length-map q.aggs (λ agg. agg.kind)) i)) h) ∙ places;
+}

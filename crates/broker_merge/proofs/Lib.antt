@@ -3,3 +3,5 @@ pub mod RankLemmas
 pub mod JoinLemmas
 pub mod FewLemmas
 pub mod AnswerLemmas
+pub mod AskedLemmas
+pub mod TestLemmas

@@ -4,7 +4,7 @@ use Rattle.std.specs.declared.cmp.Ordering.{Ordering}
 use Rattle.std.specs.declared.cmp.Ordering.TheVariants.{Less, Equal, Greater}
 use Rattle.std.specs.Ordering.{ordering_reverse, ordering_then, is_lt, is_eq, eq_by_cmp}
 use Rattle.std.specs.Cmp.{IsTotalOrder}
-use Rattle.std.specs.List.{IsDistinct, AllByRecursion}
+use Rattle.std.specs.List.{IsDistinct, AllByRecursion, filter}
 use Rattle.std.specs.List.Sorted.{IsSorted}
 use Rattle.std.specs.Map.{keys_of, lookup}
 use Rattle.std.specs.FinMap as finite
@@ -165,6 +165,49 @@ module _ (order : List OrderKey) where
       ∙ absent e.0 es (IsDistinct-head key_eq e.0 (keys_of es) d) in
       ap (in_order order) (finite.entries-insert key_total m e.0 e.1) ∙ put_new e.0 e.1 (finite.entries m) none ∙ ap (put_in order e) rest
 
+  -- ---- those that pass a test do not depend on it either
+
+  module _ (p : Group → Bool) where
+    turned : (a b : Bool) (x e : Group) (xs ys : List Group) → group_order order x e ≢ Equal
+        → in_order order ys ≡ in_order order (cond b (x ∷ xs) xs)
+        → in_order order (cond a (e ∷ ys) ys) ≡ in_order order (cond b (x ∷ cond a (e ∷ xs) xs) (cond a (e ∷ xs) xs))
+    turned true true x e xs ys h rest = ap (put_in order e) rest ∙ sym (swapped x e (in_order order xs) h)
+    turned true false x e xs ys h rest = ap (put_in order e) rest
+    turned false true x e xs ys h rest = rest
+    turned false false x e xs ys h rest = rest
+
+    kept_step : (k : List Value) (v : List AggState) (e : Group) (es : List Group) (r : Ordering) → key_order k e.0 ≡ r
+        → find key_order k (e ∷ es) ≡ None
+        → in_order order (filter p (put key_order k v es)) ≡ in_order order (filter p ((k, v) ∷ es))
+        → in_order order (filter p (by_order r ((k, v) ∷ e ∷ es) ((e.0, v) ∷ es) (e ∷ put key_order k v es)))
+        ≡ in_order order (filter p ((k, v) ∷ e ∷ es))
+    kept_step k v e es Less is none rest = refl
+    kept_step k v e es Equal is none rest =
+        let t : eq_by_cmp key_order k e.0 ≡ true = ap is_eq is in
+        let f = new_head k v e es none in cc
+    kept_step k v e es Greater is none rest =
+        turned (p e) (p (k, v)) (k, v) e (filter p es) (filter p (put key_order k v es)) (apart (k, v) e (new_head k v e es none)) rest
+
+    put_kept : (k : List Value) (v : List AggState) (es : List Group) → find key_order k es ≡ None
+        → in_order order (filter p (put key_order k v es)) ≡ in_order order (filter p ((k, v) ∷ es))
+    put_kept k v [] none = refl
+    put_kept k v (e ∷ es) none = kept_step k v e es (key_order k e.0) refl none (put_kept k v es (new_rest k e es none))
+
+    headed : (b : Bool) (e : Group) (xs ys : List Group) → in_order order xs ≡ in_order order ys → in_order order (cond b (e ∷ xs) xs) ≡ in_order order (cond b (e ∷ ys) ys)
+    headed true e xs ys rest = ap (put_in order e) rest
+    headed false e xs ys rest = rest
+
+    pub found_kept : (es : List Group) → IsDistinct key_eq (keys_of es)
+        → in_order order (filter p (finite.entries (finite.from_entries {R = key_order} es))) ≡ in_order order (filter p es)
+    found_kept [] d = ap (λ l. in_order order (filter p l)) no_entries
+    found_kept (e ∷ es) d =
+        let rest = found_kept es (IsDistinct-tail key_eq e.0 (keys_of es) d) in
+        let m = finite.from_entries {R = key_order} es in
+        let none : find key_order e.0 (finite.entries m) ≡ None = sym (finite.get-entries m e.0) ∙ finite.get-from_entries key_total es e.0
+        ∙ absent e.0 es (IsDistinct-head key_eq e.0 (keys_of es) d) in
+        ap (λ l. in_order order (filter p l)) (finite.entries-insert key_total m e.0 e.1) ∙ put_kept e.0 e.1 (finite.entries m) none
+        ∙ headed (p e) e (filter p (finite.entries m)) (filter p es) rest
+
   -- ---- groups in order are the same groups, in order
 
   put_permuted : (g : Group) (l : List Group) → IsPermutation (g ∷ l) (put_in order g l)
@@ -276,3 +319,7 @@ module _ (order : List OrderKey) where
       → fs ≡ in_order order (finite.entries (finite.from_entries {R = key_order} es))
   is_in_order es fs p d s = sym (ap (λ (m : Groups). in_order order (finite.entries m)) (sym (same_groups es fs p d))
       ∙ found fs (distinct_permuted es fs p d) ∙ from_sorted fs s)
+
+  -- and the list in order itself
+  pub in_order_is : (es fs : List Group) → IsPermutation es fs → IsDistinct key_eq (keys_of es) → IsSorted (group_order order) fs → fs ≡ in_order order es
+  in_order_is es fs p d s = is_in_order es fs p d s ∙ found es d

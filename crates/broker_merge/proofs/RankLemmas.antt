@@ -21,12 +21,14 @@ use Rattle.table_schema.specs.declared.query.Item.{Item}
 use Rattle.table_schema.specs.declared.query.Item.TheVariants as item
 use Rattle.table_schema.specs.declared.query.OrderKey.{OrderKey}
 use Rattle.group_table.specs.Groups.{Group, key_order}
-use Rattle.group_table.specs.Kept.{KeptGroups, IsGroup, IsTable, HaveValues, group_at}
+use Rattle.std.specs.List.{IsDistinct}
+use Rattle.std.specs.Map.{keys_of}
+use Rattle.group_table.specs.Kept.{KeptGroups, IsGroup, IsTable, HaveValues, group_at, key_eq}
 use Rattle.broker_merge.specs.Order.{item_order, directed, group_order, in_order}
 use Rattle.broker_merge.specs.Rank.{Placed, IsFair, placed_order, turned_order, seen_order, seen_at, placed_at, places_of, key_place}
 use Rattle.broker_merge.specs.Ranked.{AreRanked, BeginInOrder}
 use Rattle.broker_merge.proofs.JoinLemmas.{not_itself, not_less_on, sorted_append}
-use Rattle.broker_merge.proofs.OrderLemmas.{group_total, is_in_order, permuted, sorted as in_order_sorted}
+use Rattle.broker_merge.proofs.OrderLemmas.{group_total, in_order_is, permuted, sorted as in_order_sorted}
 
 -- ---- the groups of a table
 
@@ -94,11 +96,11 @@ module _ {X A : Type 0} (f : X → List A) (w : ℕ) (each : (x : X) → length 
 
 -- ---- groups ranked
 
-map_same : (xs : List ℕ) → map (λ k. k) xs ≡ xs
+pub map_same : (xs : List ℕ) → map (λ k. k) xs ≡ xs
 map_same [] = refl
 map_same (x ∷ xs) = ap (λ l. x ∷ l) (map_same xs)
 
-range_more : (n : ℕ) → range_with_len 0 (n + 1) ≡ range_with_len 0 n ++ n ∷ []
+pub range_more : (n : ℕ) → range_with_len 0 (n + 1) ≡ range_with_len 0 n ++ n ∷ []
 range_more n = sym (map_same (range_with_len 0 (n + 1))) ∙ map-range_with_len_more (λ k. k) 0 n n (omega arith)
     ∙ ap (λ l. l ++ n ∷ []) (map_same (range_with_len 0 n))
 
@@ -215,13 +217,13 @@ module _ (t : KeptGroups) (order : List OrderKey) where
   below_places l h = All-map (λ k. k < length t.groups) (λ (r : Entry). r.1) l h.below
 
   -- sorted entries are the places in order
-  pub in_order_places : (most : ℕ) (ranked new : List Entry) → IsTable t → AreRanked all_places (length order + 1) (length t.groups) ranked
-      → IsPermutation ranked new → IsSorted entry_order new → BeginInOrder t order most (map (λ (r : Entry). r.1) new)
-  in_order_places most ranked new table h p s =
+  pub in_order_places : (most : ℕ) (ranked new : List Entry) → IsDistinct key_eq (keys_of t.groups) → AreRanked all_places (length order + 1) (length t.groups) ranked
+      → IsPermutation ranked new → IsSorted entry_order new → BeginInOrder t t.groups order most (map (λ (r : Entry). r.1) new)
+  in_order_places most ranked new once h p s =
       let shown : AreShown new = shown_moved ranked new p (all_shown ranked h) in
       record {
         below = below_places new shown;
-        groups = ap (take most) (is_in_order order t.groups (groups_at new) (moved_groups ranked new h p) table.once (sorted_groups new shown s));
+        begins = ap (take most) (in_order_is order t.groups (groups_at new) (moved_groups ranked new h p) once (sorted_groups new shown s));
       }
 
   left_shown : (l m : List Entry) → AreShown (l ++ m) → AreShown l
@@ -239,13 +241,20 @@ module _ (t : KeptGroups) (order : List OrderKey) where
   all_groups_at : (P : Group → Type 0) (l : List Entry) → All (λ (r : Entry). P (group_at t r.1)) l → All P (groups_at l)
   all_groups_at P l h = All-map P (group_at t) (map (λ (r : Entry). r.1) l) (All-map (λ j. P (group_at t j)) (λ (r : Entry). r.1) l h)
 
+  -- entries that were chosen as the first, and moved, are of the table
+  pub first_below : (ranked front first back : List Entry) (x : Entry) → AreRanked all_places (length order + 1) (length t.groups) ranked
+      → IsPermutation ranked (front ++ x ∷ back) → IsPermutation front first → All (λ (r : Entry). r.1 < length t.groups) first
+  first_below ranked front first back x h p q =
+      let shown = shown_moved ranked (front ++ x ∷ back) p (all_shown ranked h) in
+      (shown_moved front first q (left_shown front (x ∷ back) shown)).below
+
   -- so are those that were chosen as the first, and sorted
-  pub first_places : (most : ℕ) (ranked front first back : List Entry) (x : Entry) → IsTable t → AreRanked all_places (length order + 1) (length t.groups) ranked
+  pub first_places : (most : ℕ) (ranked front first back : List Entry) (x : Entry) → IsDistinct key_eq (keys_of t.groups) → AreRanked all_places (length order + 1) (length t.groups) ranked
       → IsPermutation ranked (front ++ x ∷ back) → length front ≡ most → IsSplitAround entry_order front x back → IsPermutation front first → IsSorted entry_order first
-      → BeginInOrder t order most (map (λ (r : Entry). r.1) first)
-  first_places most ranked front first back x table h p count split q s = record {
+      → BeginInOrder t t.groups order most (map (λ (r : Entry). r.1) first)
+  first_places most ranked front first back x once h p count split q s = record {
     below = below_places first begun;
-    groups = take_all most fs (omega (arith, lengths)) ∙ sym (take_at fs rs most lengths) ∙ ap (take most) (is_in_order order t.groups (fs ++ rs) moved table.once joined);
+    begins = take_all most fs (omega (arith, lengths)) ∙ sym (take_at fs rs most lengths) ∙ ap (take most) (in_order_is order t.groups (fs ++ rs) moved once joined);
   }
     where
       shown : AreShown (front ++ x ∷ back)

@@ -1,5 +1,5 @@
 -- The answer of a query: its columns, and of each group that is written a cell a column.
-use Rattle.std.specs.Prelude.{◌≡◌, ℕ, ◌<◌, ◌≤◌, ℤ, pos, true, List, ◌++◌, codes, map, flat_map, take, drop}
+use Rattle.std.specs.Prelude.{◌≡◌, ℕ, ◌<◌, ◌≤◌, nat_lt, ℤ, pos, true, List, ◌++◌, codes, map, flat_map, take, drop}
 use Rattle.std.specs.Prelude.{length, Option, Some, None}
 use Rattle.std.specs.List.{All, list_all}
 use Rattle.std.specs.Fmt.{decimal, signed_decimal}
@@ -13,9 +13,10 @@ use Rattle.table_schema.specs.Conditions.{cell}
 use Rattle.table_schema.specs.declared.query.Item.{Item}
 use Rattle.table_schema.specs.declared.query.Item.TheVariants as item
 use Rattle.table_schema.specs.declared.query.BoundQuery.{BoundQuery}
-use Rattle.table_schema.specs.ValidQuery.{is_item}
+use Rattle.table_schema.specs.ValidQuery.{is_item, having_places, if_asked}
 use Rattle.group_table.specs.Shape.{Shape}
 use Rattle.group_table.specs.Groups.{Group, Groups}
+use Rattle.broker_merge.specs.Having.{asked_groups}
 use Rattle.broker_merge.specs.Order.{in_order, state_in}
 use Rattle.broker_merge.specs.declared.answer.Answer.{Answer}
 use Rattle.broker_merge.specs.declared.answer.Cell.{Cell}
@@ -39,10 +40,12 @@ abbrev pub item_cell : Group → Item → Cell
 item_cell group (item.Group place) = cells.Kept (cell group.0 place)
 item_cell group (item.Agg place) = state_cell (state_in group place)
 
--- the groups that are written: in order, the first `offset` passed over, `limit` at most
+-- the groups that are written: of those that satisfy HAVING, in order, the first `offset` passed
+-- over, `limit` at most
 abbrev pub written_of : Shape → Groups → List Group
 written_of shape groups =
-    take shape.limit (drop shape.offset (in_order shape.order (finite.entries groups)))
+    take shape.limit (drop shape.offset
+    (in_order shape.order (asked_groups shape.having (finite.entries groups))))
 
 -- the answer over these groups
 abbrev pub answer_of : Shape → Groups → Answer
@@ -68,8 +71,10 @@ pub record IsWhole (answer : Answer) : Type 0 where
   pub some : 0 < length answer.labels
   pub each : All (λ row. length row ≡ length answer.labels) answer.rows
 
--- what a query asks for and orders by are of its group columns and its aggregates
+-- what a query asks for, asks of groups and orders by are of its group columns and its aggregates
 pub record NamesPlaces (query : BoundQuery) : Type 0 where
   pub items : list_all (is_item query) query.items ≡ true
   pub keys : list_all (λ key. is_item query key.item) query.order ≡ true
   pub at_most : length query.order ≤ 16
+  pub grouped : if_asked (λ having. nat_lt 0 (length query.groups)) query.having ≡ true
+  pub asked : if_asked (having_places query.groups query.aggs) query.having ≡ true

@@ -1,6 +1,7 @@
 pub mod Order
 pub mod Rank
 pub mod Ranked
+pub mod Having
 pub mod Answer
 pub mod Reply
 pub mod Written

@@ -3,6 +3,7 @@
 #![tactic(auto)]
 
 mod answer;
+mod having;
 mod laws;
 mod order;
 mod rank;

@@ -1,11 +1,12 @@
 //! The groups of a table in order.
 
-ghost use Rattle.std.specs.Prelude.{◌≡◌, ◌<◌, ◌≤◌, ◌+◌, ◌*◌, ◌++◌, IfOk, OnOk, length, map};
+ghost use Rattle.std.specs.Prelude.{◌≡◌, ◌<◌, ◌≤◌, ◌+◌, ◌*◌, ◌^◌, ◌++◌, IfOk, OnOk, length, map, slice_index};
 ghost use Rattle.std.specs.Prelude.{flat_map};
 ghost use Rattle.std.specs.Fork.{slice_chunk};
+ghost use Rattle.std.specs.List.{All};
 ghost use Rattle.group_table.specs.Kept.{group_at};
 ghost use Rattle.broker_merge.specs.Rank.{AreFair, HasGroup, IsItem, IsOrderOf, places_of, seen_at, seen_of};
-ghost use Rattle.broker_merge.specs.Ranked.{AreRanked, BeginInOrder};
+ghost use Rattle.broker_merge.specs.Ranked.{AreKept, AreRanked, BeginInOrder};
 
 use crate::rank::{Place, Rank};
 use group_table::GroupsIn;
@@ -13,27 +14,30 @@ use std::alloc::Global;
 use table_schema::{Item, OrderKey};
 use values::NoMemory;
 
-/// The places of the first so many groups of a table, in order. Where there are more, these are
-/// chosen before they are sorted.
+/// The places of the first so many of some groups of a table, in order. Where there are more, these
+/// are chosen before they are sorted.
 pub fn ordered(
     alloc: Global,
     table: &GroupsIn<'_>,
+    kept: &[u32],
     order: &[OrderKey],
     most: u128,
 ) -> Result<Vec<u32>, NoMemory>
     requires of_table { IsOrderOf table.now order.now }
     requires at_most { length order.now ≤ 16 }
-    ensures { IfOk result (λ v. BeginInOrder table.now order.now most v.items) }
+    requires kept { AreKept table.now kept.now }
+    ensures { IfOk result (λ v. BeginInOrder table.now
+        (map (group_at table.now) kept.now) order.now most v.items) }
 {
-    let places = all_places(alloc, table, order)?;
-    let mut ranked = ranked(alloc, &places, order.len() + 1, table.groups())?;
+    let places = all_places(alloc, table, kept, order)?;
+    let mut ranked = ranked(alloc, &places, order.len() + 1, kept.len() as u32)?;
     if most < ranked.len() as u128 {
         let (first, _, _) = ranked.select_nth_unstable(most as usize);
         first.sort_unstable();
-        places_in(alloc, first)
+        places_in(alloc, kept, first)
     } else {
         ranked.sort_unstable();
-        places_in(alloc, &ranked)
+        places_in(alloc, kept, &ranked)
     }
 }
 
@@ -69,20 +73,23 @@ fn push_places<'a>(
     Ok(())
 }
 
-// What the groups are compared by, one after the other.
+// What the groups at these places are compared by, one after the other.
 fn all_places<'a>(
     alloc: Global,
     table: &'a GroupsIn<'_>,
+    kept: &[u32],
     order: &[OrderKey],
 ) -> Result<Vec<Place<'a>>, NoMemory>
     requires of_table { IsOrderOf table.now order.now }
     requires at_most { length order.now ≤ 16 }
-    ensures { IfOk result (λ v. v.items ≡ flat_map (places_of order.now) table.now.groups) }
+    requires below { All (λ at. at < length table.now.groups) kept.now }
+    requires few { length kept.now < 2 ^ 32 }
+    ensures { IfOk result (λ v. v.items
+        ≡ flat_map (λ at. places_of order.now (group_at table.now at)) kept.now) }
 {
-    let count = table.groups();
-    let mut places = Vec::with_capacity(alloc, count as usize * (order.len() + 1))?;
-    for at in 0..count {
-        push_places(table, at, order, &mut places)?;
+    let mut places = Vec::with_capacity(alloc, kept.len() * (order.len() + 1))?;
+    for at in kept {
+        push_places(table, *at, order, &mut places)?;
     }
     Ok(places)
 }
@@ -97,7 +104,7 @@ fn shown_at<'a>(places: &'a [Place<'a>], width: usize, at: u32) -> &'a [Place<'a
     &places[start..start + width]
 }
 
-// The places of groups, each with what the group is compared by.
+// The numbers from 0 on, each with its share of what is compared.
 fn ranked<'a>(
     alloc: Global,
     places: &'a [Place<'a>],
@@ -115,13 +122,18 @@ fn ranked<'a>(
     Ok(ranked)
 }
 
-// The places alone.
-fn places_in(alloc: Global, ranked: &[(&[Place<'_>], u32)]) -> Result<Vec<u32>, NoMemory>
-    ensures { IfOk result (λ v. v.items ≡ map (λ r. r.1) ranked.now) }
+// The places of these numbers.
+fn places_in(
+    alloc: Global,
+    kept: &[u32],
+    ranked: &[(&[Place<'_>], u32)],
+) -> Result<Vec<u32>, NoMemory>
+    requires { All (λ r. r.1 < length kept.now) ranked.now }
+    ensures { IfOk result (λ v. v.items ≡ map (λ r. slice_index kept.now r.1) ranked.now) }
 {
     let mut places = Vec::with_capacity(alloc, ranked.len())?;
-    for (_, at) in ranked {
-        places.push(*at)?;
+    for (_, number) in ranked {
+        places.push(kept[*number as usize])?;
     }
     Ok(places)
 }

@@ -2,16 +2,18 @@
 
 ghost use Rattle.std.specs.Prelude.{◌≡◌, ◌<◌, ◌≤◌, IfOk, length, map};
 ghost use Rattle.std.specs.FinMap as finite;
-ghost use Rattle.std.specs.List.{All, range_with_len};
+ghost use Rattle.std.specs.List.{All};
 ghost use Rattle.group_table.specs.Kept.{IsTable, IsTableOf, group_at, groups_in};
 ghost use Rattle.group_table.specs.Pooled.{IsTableIn, in_pool};
 ghost use Rattle.group_table.specs.Shape.{shape_of};
 ghost use Rattle.broker_merge.specs.Rank.{HasGroup, IsItem};
 ghost use Rattle.broker_merge.specs.Ranked.{BeginInOrder};
+ghost use Rattle.broker_merge.specs.Having.{asked_groups};
 ghost use Rattle.broker_merge.specs.Answer as spec;
 ghost use Rattle.broker_merge.specs.Answer.{NamesPlaces};
 
 use crate::answer::{Answer, Cell};
+use crate::having::asked;
 use crate::ordered;
 use crate::stretch::written_of;
 use agg_laws::AggState;
@@ -60,7 +62,8 @@ fn finish_groups(
     Ok(Answer { labels, rows })
 }
 
-// The places of the first so many groups in order. Fewer than two are in order as they are.
+// The places of the first so many groups that are asked for, in order. Fewer than two are in order
+// as they are.
 fn first_in_order(
     alloc: Global,
     table: &GroupsIn<'_>,
@@ -69,28 +72,19 @@ fn first_in_order(
 ) -> Result<Vec<u32>, NoMemory>
     requires table { IsTableOf query.now table.now }
     requires places { NamesPlaces query.now }
-    ensures order { IfOk result (λ v. BeginInOrder table.now query.now.order most v.items) }
+    ensures order { IfOk result (λ v. BeginInOrder table.now
+        (asked_groups query.now.having (finite.entries (groups_in table.now)))
+        query.now.order most v.items) }
     ensures table { IsTable table.now }
     ensures count { length table.now.groups ≡ finite.len (groups_in table.now) }
 {
     let count = table.groups();
-    if count < 2 {
-        first_places(alloc, count)
+    let kept = asked(alloc, table, count, &query.having)?;
+    if kept.len() < 2 {
+        Ok(kept)
     } else {
-        ordered(alloc, table, query.order.as_slice(), most)
+        ordered(alloc, table, &kept, query.order.as_slice(), most)
     }
-}
-
-// The places of so few groups.
-fn first_places(alloc: Global, count: u32) -> Result<Vec<u32>, NoMemory>
-    requires { count < 2 }
-    ensures { IfOk result (λ v. v.items ≡ range_with_len 0 count) }
-{
-    let mut places = Vec::new(alloc);
-    if count == 1 {
-        places.push(0)?;
-    }
-    Ok(places)
 }
 
 // The labels of the columns; their texts are shared.

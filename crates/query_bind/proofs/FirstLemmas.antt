@@ -8,7 +8,7 @@ use Rattle.query_bind.specs.declared.terms.TermAt.{TermAt}
 use Rattle.query_bind.specs.declared.terms.KeyAt.{KeyAt}
 use Rattle.query_bind.specs.declared.terms.ColumnAt.{ColumnAt}
 use Rattle.query_bind.specs.Faults.{Finding, fault_if}
-use Rattle.query_bind.specs.Terms.{terms_of, with_new, with_column, columns_from, with_agg, aggs_from, groups_of, aggs_of}
+use Rattle.query_bind.specs.Terms.{terms_of, with_new, with_column, columns_from, with_agg, aggs_from, aggs_before_keys, groups_of, aggs_of}
 use Rattle.query_bind.specs.Limits.{aggs_finding, groups_finding, keys_finding, limits_finding}
 use Rattle.std.proofs.lemmas.Bool.{ltb-false, leb-false}
 use Rattle.std.proofs.lemmas.Option.{none-some}
@@ -34,7 +34,7 @@ grows_by kept x false = omega (arith, length-append kept (x ∷ []))
 grows : {A : Type 0} (same : A → A → Bool) (kept : List A) (x : A) → length kept ≤ length (with_new same kept x)
 grows same kept x = grows_by kept x _
 
-columns_grow : (kept : List ℕ) (ns : List ColumnAt) → length kept ≤ length (columns_from kept ns)
+pub columns_grow : (kept : List ℕ) (ns : List ColumnAt) → length kept ≤ length (columns_from kept ns)
 columns_grow kept [] = omega arith
 columns_grow kept (n ∷ ns) = omega (arith, grows (λ a b. b == a) kept n.column, columns_grow (with_column kept n.column) ns)
 
@@ -210,13 +210,16 @@ module _ (table : Table) (any_table : Bool) (q : Query) (b : Bound) (is : bound 
   limits = first_none (limits_finding terms) _ (rest_none (grouped_finding q) _ (rest_none (aggregate_finding q) _
       (rest_none (names_finding table.schema.fields q) _ (rest_none (table_finding table any_table q) _ own.0))))
 
-  following_aggs : first_of (groups_finding [] terms.groups ∷ keys_finding 0 (aggs_from [] terms.items) terms.keys ∷ []) ≡ None
+  following_aggs : first_of (groups_finding [] terms.groups ∷ aggs_finding (aggs_from [] terms.items) terms.having ∷ keys_finding 0 (aggs_before_keys terms) terms.keys ∷ []) ≡ None
   following_aggs = rest_none (aggs_finding [] terms.items) _ limits
 
   keys : (length (aggs_of terms) ≤ 16) × (0 + length terms.keys ≤ 16)
-  keys = small_keys 0 (aggs_from [] terms.items) terms.keys (omega arith)
-      (small_aggs [] terms.items (omega arith) (first_none (aggs_finding [] terms.items) _ limits))
-      (first_none (keys_finding 0 (aggs_from [] terms.items) terms.keys) _ (rest_none (groups_finding [] terms.groups) _ following_aggs))
+  keys =
+      let following_groups = rest_none (groups_finding [] terms.groups) _ following_aggs in
+      small_keys 0 (aggs_before_keys terms) terms.keys (omega arith)
+      (small_aggs (aggs_from [] terms.items) terms.having
+      (small_aggs [] terms.items (omega arith) (first_none (aggs_finding [] terms.items) _ limits)) (first_none (aggs_finding (aggs_from [] terms.items) terms.having) _ following_groups))
+      (first_none (keys_finding 0 (aggs_before_keys terms) terms.keys) _ (rest_none (aggs_finding (aggs_from [] terms.items) terms.having) _ following_groups))
 
   kept : (length (groups_of terms) ≤ 8) × (length (aggs_of terms) ≤ 16) × (length (keys_of (groups_of terms) (aggs_of terms) terms.keys) ≤ 16)
   kept = (

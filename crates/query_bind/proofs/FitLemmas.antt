@@ -212,7 +212,7 @@ module _ (fields : List Field) where
 
   -- ---- a condition whose types are in order
 
-  passes_by : (b : Bool) (reason : BindReason) (at : ℕ) → fault_unless b reason at ≡ None → b ≡ true
+  pub passes_by : (b : Bool) (reason : BindReason) (at : ℕ) → fault_unless b reason at ≡ None → b ≡ true
   passes_by true reason at passes = refl
   passes_by false reason at passes = absurd (none-some (At reason at) (sym passes))
 
@@ -221,7 +221,7 @@ module _ (fields : List Field) where
   kind_by None at passes = absurd (none-some (At UnknownColumn at) (sym passes))
   kind_by (Some m) at passes = refl
 
-  kind_is : (n : NameAt) (rest : Finding) → or_else (column_finding fields n) rest ≡ None → kind_of fields n ≡ kind_at fields (field_number fields n)
+  pub kind_is : (n : NameAt) (rest : Finding) → or_else (column_finding fields n) rest ≡ None → kind_of fields n ≡ kind_at fields (field_number fields n)
   kind_is n rest passes = kind_by (number_of fields n.name) n.offset (first_none (column_finding fields n) rest passes)
 
   literals_fit : (k : Option FieldKind) (ls : List LiteralAt) → first_in (literal_finding k) ls ≡ None → list_all (is_typed k) (map value_in ls) ≡ true

@@ -31,7 +31,7 @@ use Rattle.query_bind.specs.Bound.{Bound, Spelled, bound_of, bound, query_findin
 use Rattle.query_bind.proofs.Truth.{and_of, both}
 use Rattle.query_bind.proofs.PlaceLemmas.{answered}
 use Rattle.query_bind.proofs.TermLemmas.{meaning_is, aggs_are}
-use Rattle.query_bind.proofs.SpelledLemmas.{is_term, takes_argument, spelled_items, spelled_keys}
+use Rattle.query_bind.proofs.SpelledLemmas.{is_term, takes_argument, spelled_items, spelled_having, spelled_keys}
 use Rattle.table_schema.specs.ValidQuery.{agg_fits}
 use Rattle.table_schema.proofs.FirstLaws.{first_none, rest_none}
 
@@ -117,5 +117,5 @@ module _ (table : Table) (any_table : Bool) (q : Query) (b : Bound) (is : bound 
 
   pub functions_fit : list_all (agg_fits fields) b.aggs ≡ true
   functions_fit = subst (λ x. list_all (agg_fits fields) x.aggs ≡ true) own.1
-      (aggs_are fields (agg_fits fields) is_term (term_fits fields) q (first_none (names_finding fields q) _ (rest_none (table_finding table any_table q) _ own.0)) items
+      (aggs_are fields (agg_fits fields) is_term (term_fits fields) q (first_none (names_finding fields q) _ (rest_none (table_finding table any_table q) _ own.0)) items (spelled_having _ q spelled.2)
       (keys_standing_for q.items q.order items (spelled_keys _ q spelled.2)))

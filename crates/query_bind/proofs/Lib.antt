@@ -1,5 +1,7 @@
 pub mod WideLemmas
 mod FirstLemmas
+pub mod HavingLemmas
+mod AskedLemmas
 mod Joined
 pub mod JointLemmas
 mod OnceLemmas

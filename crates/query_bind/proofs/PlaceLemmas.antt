@@ -22,9 +22,10 @@ use Rattle.query_bind.specs.declared.terms.TermAt.{TermAt}
 use Rattle.query_bind.specs.declared.terms.ColumnAt.{ColumnAt}
 use Rattle.query_bind.specs.Faults.{Finding, fault_unless}
 use Rattle.query_bind.specs.Written.{field_number}
+use Rattle.query_bind.specs.GroupTests.{having_finding}
 use Rattle.query_bind.specs.Names.{term_of, table_finding, names_finding}
-use Rattle.query_bind.specs.Grouped.{is_grouped, term_grouped, aggregate_finding, grouped_finding}
-use Rattle.query_bind.specs.Terms.{meaning_of, term_at, key_at, column_at, terms_of, with_new, with_column, columns_from, with_agg, aggs_from}
+use Rattle.query_bind.specs.Grouped.{is_grouped, term_grouped, test_grouped, aggregate_finding, grouped_finding}
+use Rattle.query_bind.specs.Terms.{meaning_of, term_at, key_at, column_at, terms_of, with_new, with_column, columns_from, with_agg, aggs_from, aggs_before_keys}
 use Rattle.query_bind.specs.Bound.{Bound, bound_of, bound, query_finding, answer, item_of, items_of, keys_of, label_of}
 use Rattle.query_bind.specs.Places.{at_place, ItemsAreTerms, KeysAreTerms}
 use Rattle.table_schema.specs.declared.query.Agg.{Agg}
@@ -86,11 +87,11 @@ module _ (fields : List Field) (n : NameAt) where
 -- ---- aggregates
 
 -- the aggregate that a term may be is among these
-abbrev Has : List Agg → Meaning → Type 0
+abbrev pub Has : List Agg → Meaning → Type 0
 Has aggs (meaning.Column c) = Unit {0}
 Has aggs (meaning.Agg a) = list_any (same_agg a) aggs ≡ true
 
-abbrev HasAll : List Agg → List TermAt → Type 0
+abbrev pub HasAll : List Agg → List TermAt → Type 0
 HasAll aggs [] = Unit {0}
 HasAll aggs (t ∷ ts) = Has aggs t.meaning × HasAll aggs ts
 
@@ -110,12 +111,17 @@ has_new : (kept : List Agg) (m : Meaning) → Has (with_agg kept m) m
 has_new kept (meaning.Column c) = tt
 has_new kept (meaning.Agg a) = is_put same_agg kept a (own_agg a)
 
-has_all : (kept : List Agg) (ts later : List TermAt) → HasAll (aggs_from (aggs_from kept ts) later) ts
+pub has_all : (kept : List Agg) (ts later : List TermAt) → HasAll (aggs_from (aggs_from kept ts) later) ts
 has_all kept [] later = tt
 has_all kept (t ∷ ts) later = (
   has_stays (aggs_from (with_agg kept t.meaning) ts) later t.meaning (has_stays (with_agg kept t.meaning) ts t.meaning (has_new kept t.meaning)),
   has_all (with_agg kept t.meaning) ts later,
 )
+
+-- and they stay
+all_stay : (kept : List Agg) (ts later : List TermAt) → HasAll kept ts → HasAll (aggs_from kept later) ts
+all_stay kept [] later has = tt
+all_stay kept (t ∷ ts) later has = (has_stays kept later t.meaning has.0, all_stay kept ts later has.1)
 
 -- ---- places
 
@@ -128,10 +134,10 @@ finds : {A : Type 0} (p : A → Bool) (xs : List A) (a : A) → ((y : A) → p y
 finds p [] a is found = absurd (not_true found)
 finds p (x ∷ xs) a is found = find_by p x xs a (p x) is refl (finds p xs a is) found
 
-stands : {A : Type 0} (p : A → Bool) (xs : List A) (a : A) → ((y : A) → p y ≡ true → y ≡ a) → list_any p xs ≡ true → slice_get xs (position_or_len p xs) ≡ Some a
+pub stands : {A : Type 0} (p : A → Bool) (xs : List A) (a : A) → ((y : A) → p y ≡ true → y ≡ a) → list_any p xs ≡ true → slice_get xs (position_or_len p xs) ≡ Some a
 stands p xs a is found = sym (find_at p xs) ∙ finds p xs a is found
 
-abbrev HasColumn : List ℕ → Meaning → Type 0
+abbrev pub HasColumn : List ℕ → Meaning → Type 0
 HasColumn groups (meaning.Column c) = list_any (λ g. g == c) groups ≡ true
 HasColumn groups (meaning.Agg a) = Unit {0}
 
@@ -146,7 +152,7 @@ is_grouped_by names n true e passes = e
 is_grouped_by names n false e passes = let no : Some (At NotGrouped n.offset) ≡ None = passes in cc
 
 module _ (fields : List Field) (names : List NameAt) (b : Bound) (columns : b.groups ≡ columns_from [] (map (column_at fields) names)) where
-  term_column : (t : Term) → term_grouped names t ≡ None → HasColumn b.groups (meaning_of fields t)
+  pub term_column : (t : Term) → term_grouped names t ≡ None → HasColumn b.groups (meaning_of fields t)
   term_column (term.Column n) passes = subst (λ groups. list_any (λ g. g == field_number fields n) groups ≡ true) (sym columns)
       (is_column fields n names [] (is_grouped_by names n (is_grouped names n) refl passes))
   term_column (term.Call c) passes = tt
@@ -182,7 +188,7 @@ module _ (table : Table) (any_table : Bool) (q : Query) (b : Bound) (is : bound 
   own : (query_finding table any_table q ≡ None) × (bound_of table.schema.fields q ≡ b)
   own = answered (query_finding table any_table q) (bound_of table.schema.fields q) b is
 
-  passes : grouped_finding q ≡ None
+  pub passes : grouped_finding q ≡ None
   passes =
       let none = own.0 in
       first_none (grouped_finding q) _ (rest_none (aggregate_finding q) _ (rest_none (names_finding table.schema.fields q) _ (rest_none (table_finding table any_table q) _ none)))
@@ -191,13 +197,14 @@ module _ (table : Table) (any_table : Bool) (q : Query) (b : Bound) (is : bound 
   items_are = subst (λ x. map (at_place x) x.items ≡ map (λ i. Some (meaning_of table.schema.fields i.term)) q.items) own.1
       (items_stand table.schema.fields q.groups (bound_of table.schema.fields q) refl q.items
       (first_none (first_in (λ i. term_grouped q.groups i.term) q.items) _ passes)
-      (has_all [] (terms_of table.schema.fields q).items (map (λ k. k.term) (terms_of table.schema.fields q).keys)))
+      (all_stay (aggs_before_keys (terms_of table.schema.fields q)) (terms_of table.schema.fields q).items (map (λ k. k.term) (terms_of table.schema.fields q).keys)
+      (has_all [] (terms_of table.schema.fields q).items (terms_of table.schema.fields q).having)))
 
   pub keys_are : map (λ k. at_place b k.item) b.order ≡ map (λ k. Some (meaning_of table.schema.fields (term_of q.items k.term))) q.order
   keys_are = subst (λ x. map (λ k. at_place x k.item) x.order ≡ map (λ k. Some (meaning_of table.schema.fields (term_of q.items k.term))) q.order) own.1
       (keys_stand table.schema.fields q.groups (bound_of table.schema.fields q) refl q.items q.order
-      (first_none (first_in (λ k. term_grouped q.groups (term_of q.items k.term)) q.order) _ (rest_none (first_in (λ i. term_grouped q.groups i.term) q.items) _ passes))
-      (has_all (aggs_from [] (terms_of table.schema.fields q).items) (map (λ k. k.term) (terms_of table.schema.fields q).keys) []))
+      (first_none (first_in (λ k. term_grouped q.groups (term_of q.items k.term)) q.order) _ (rest_none (having_finding (test_grouped q.groups) q.having) _ (rest_none (first_in (λ i. term_grouped q.groups i.term) q.items) _ passes)))
+      (has_all (aggs_before_keys (terms_of table.schema.fields q)) (map (λ k. k.term) (terms_of table.schema.fields q).keys) []))
 
   pub labels_are : length b.labels ≡ length b.items
   labels_are = subst (λ x. length x.labels ≡ length x.items) own.1 (as_many table.schema.fields (bound_of table.schema.fields q) q.items)

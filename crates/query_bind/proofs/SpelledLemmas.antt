@@ -1,6 +1,8 @@
 -- What the grammar keeps out of a query that some text spells: ANDs and ORs without members, and `*` in other calls than COUNT.
-use Rattle.std.proofs.Common.{◌≡◌, ℕ, zero, suc, Bool, true, false, ◌&&◌, List, [], ◌∷◌, map, Option, Some, None, refl, sym, ap, ◌∙◌, subst, inl, inr}
+use Rattle.std.proofs.Common.{◌≡◌, ℕ, zero, suc, ◌<◌, Bool, true, false, ◌&&◌, List, [], ◌∷◌, length, map, flat_map, Option, Some, None, is_some, refl, sym, ap, ◌∙◌, subst, inl, inr, arith}
 use Rattle.std.specs.List.{list_all}
+use Rattle.std.proofs.lemmas.Bool.{false≢true}
+use Rattle.std.proofs.lemmas.List.Folds.{list_all-append}
 use Rattle.table_schema.specs.declared.field.Field.{Field}
 use Rattle.values.specs.declared.test.CompareOp.{CompareOp}
 use Rattle.query_tokens.specs.declared.token.Kind.{Kind}
@@ -19,12 +21,16 @@ use Rattle.query_tokens.specs.declared.tree.Cond.TheVariants as cond
 use Rattle.query_tokens.specs.declared.tree.Cond.TheVariants.{rolls-Compare, rolls-OneOf, rolls-Between, rolls-Not}
 use Rattle.query_tokens.specs.declared.tree.Cond.TheOpen.{Cond-F}
 use Rattle.query_tokens.specs.declared.tree.Cond.TheFolds.{fold-roll-Cond}
+use Rattle.query_tokens.specs.declared.tree.HavingCond.{HavingCond}
+use Rattle.query_tokens.specs.declared.tree.HavingCond.TheVariants as asked
 use Rattle.query_tokens.specs.Stream.{Stream}
 use Rattle.query_parser.specs.Cond.{joined, row_joints, deepest}
-use Rattle.query_parser.specs.Query.{is_count}
+use Rattle.query_parser.specs.Query.{is_count, group_joints}
 use Rattle.query_parser.specs.Spells.{Rule, SpellsList, SpellsTest, SpellsConjunction, SpellsCond, SpellsFactor, SpellsCondition}
-use Rattle.query_parser.specs.SpellsQuery.{SpellsArgument, SpellsTerm, SpellsItem, SpellsKey, SpellsBy, SpellsListed, SpellsOptional, SpellsQuery}
+use Rattle.query_parser.specs.SpellsQuery.{SpellsArgument, SpellsTerm, SpellsGroupTest, SpellsHaving, SpellsHavingIf, SpellsItem, SpellsKey, SpellsBy, SpellsListed, SpellsOptional, SpellsQuery}
 use Rattle.query_bind.specs.Written.{Written, Compare, OneOf, Between, Not, All, Any, Members, no_members, member, members_of, written_step, written, where_written}
+use Rattle.query_bind.specs.GroupTests.{GroupTest, tests_of, having_tests}
+use Rattle.query_bind.proofs.HavingLemmas.{tests_of-Compare, tests_of-Not, tests_of-All, tests_of-Any}
 use Rattle.query_bind.proofs.Truth.{and_of}
 use Rattle.query_bind.proofs.JointLemmas.{written-All, written-Any}
 
@@ -155,4 +161,79 @@ keys_by [] ts us s = refl
 keys_by (i ∷ ks) ts us s = all_spelled (λ i. is_term i.term) k.Comma SpellsKey (λ ts i us t. spelled_term ts i.term t.0 t.1) (i ∷ ks) s.2.0 us s.2.2
 
 pub spelled_keys : (ts : Stream) (q : Query) → SpellsQuery ts q → list_all (λ i. is_term i.term) q.order ≡ true
-spelled_keys ts q s = keys_by q.order s.after_groups s.after_order s.spells_order
+spelled_keys ts q s = keys_by q.order s.after_having s.after_order s.spells_order
+
+-- ---- HAVING
+
+-- `*` stands in COUNT alone
+abbrev pub is_test : GroupTest → Bool
+is_test t = is_term t.tested
+
+abbrev IsWritten : HavingCond → Type 0
+IsWritten h = list_all is_test (tests_of h) ≡ true
+
+abbrev AreWritten : List HavingCond → Type 0
+AreWritten hs = list_all is_test (flat_map tests_of hs) ≡ true
+
+test_written : (ts : Stream) (h : HavingCond) (us : Stream) → SpellsGroupTest ts h us → IsWritten h
+test_written ts h us t = subst IsWritten (sym t.tree)
+    (ap (list_all is_test) (tests_of-Compare t.tested t.op t.value) ∙ and_of (is_term t.tested) true (spelled_term ts t.tested (t.sign ∷ t.rest) t.spells_term) refl)
+
+not_written : (inner : HavingCond) → IsWritten inner → IsWritten (asked.Not inner)
+not_written inner own = ap (list_all is_test) (tests_of-Not inner) ∙ own
+
+all_written : (hs : List HavingCond) → AreWritten hs → IsWritten (asked.All hs)
+all_written hs own = ap (list_all is_test) (tests_of-All hs) ∙ own
+
+any_written : (hs : List HavingCond) → AreWritten hs → IsWritten (asked.Any hs)
+any_written hs own = ap (list_all is_test) (tests_of-Any hs) ∙ own
+
+module _ (rule : Rule HavingCond) (each : (ts : Stream) (h : HavingCond) (us : Stream) → rule ts h us → IsWritten h) where
+  list_written : (sep : Kind) (hs : List HavingCond) (ts us : Stream) → SpellsList sep rule ts hs us → AreWritten hs
+  list_written sep [] ts us s = absurd s
+  list_written sep (h ∷ []) ts us s = list_all-append is_test (tests_of h) [] ∙ and_of (list_all is_test (tests_of h)) true (each ts h us s) refl
+  list_written sep (h ∷ g ∷ hs) ts us s =
+      list_all-append is_test (tests_of h) (flat_map tests_of (g ∷ hs)) ∙ and_of (list_all is_test (tests_of h)) _ (each ts h s.0 s.2) (list_written sep (g ∷ hs) s.1 us s.4)
+
+  joined_written : (sep : Kind) (joint : List HavingCond → HavingCond) → ((hs : List HavingCond) → AreWritten hs → IsWritten (joint hs))
+      → (hs : List HavingCond) (ts us : Stream) → SpellsList sep rule ts hs us → IsWritten (joined joint hs)
+  joined_written sep joint written [] ts us s = absurd s
+  joined_written sep joint written (h ∷ []) ts us s = each ts h us s
+  joined_written sep joint written (h ∷ g ∷ hs) ts us s = written (h ∷ g ∷ hs) (list_written sep (h ∷ g ∷ hs) ts us s)
+
+  ands_written : (ts : Stream) (h : HavingCond) (us : Stream) → SpellsConjunction group_joints rule ts h us → IsWritten h
+  ands_written ts h us s = subst IsWritten (sym s.2) (joined_written k.And asked.All all_written s.0 ts us s.1)
+
+ors_written : (rule : Rule HavingCond) → ((ts : Stream) (h : HavingCond) (us : Stream) → rule ts h us → IsWritten h)
+    → (ts : Stream) (h : HavingCond) (us : Stream) → SpellsCond group_joints rule ts h us → IsWritten h
+ors_written rule each ts h us s = subst IsWritten (sym s.2) (joined_written (SpellsConjunction group_joints rule) (ands_written rule each) k.Or asked.Any any_written s.0 ts us s.1)
+
+factor_written : (d : ℕ) (ts : Stream) (h : HavingCond) (us : Stream) → SpellsFactor SpellsGroupTest group_joints d ts h us → IsWritten h
+unfolding SpellsFactor
+factor_written zero ts h us s = test_written ts h us s
+factor_written (suc d) ts h us s = elim s [
+  | inl t ↦ test_written ts h us t
+  | inr r ↦ elim r [
+    | inl n ↦ subst IsWritten (sym n.4) (not_written n.1 (factor_written d n.0 n.1 us n.3))
+    | inr g ↦ ors_written (SpellsFactor SpellsGroupTest group_joints d) (factor_written d) g.0 h g.1 g.3
+  ]
+]
+
+having_written : (ts : Stream) (h : HavingCond) (us : Stream) → SpellsHaving ts h us → IsWritten h
+having_written = ors_written (SpellsFactor SpellsGroupTest group_joints deepest) (factor_written deepest)
+
+having_by : (gs : List NameAt) (ts : Stream) (o : Option HavingCond) (us : Stream) → SpellsHavingIf gs ts o us → list_all is_test (having_tests o) ≡ true
+having_by gs ts None us s = refl
+having_by [] ts (Some h) us s = absurd (false≢true (ap is_some (sym s.1)))
+having_by (g ∷ gs) ts (Some h) us s = having_written s.0 h us s.2
+
+pub spelled_having : (ts : Stream) (q : Query) → SpellsQuery ts q → list_all is_test (having_tests q.having) ≡ true
+spelled_having ts q s = having_by q.groups s.after_groups q.having s.after_having s.spells_having
+
+groups_by : (gs : List NameAt) (ts : Stream) (o : Option HavingCond) (us : Stream) → SpellsHavingIf gs ts o us → is_some o ≡ true → 0 < length gs
+groups_by [] ts o us s e = absurd (false≢true (ap is_some (sym s.1) ∙ e))
+groups_by (g ∷ gs) ts o us s e = omega arith
+
+-- HAVING stands only behind GROUP BY
+pub spelled_groups : (ts : Stream) (q : Query) → SpellsQuery ts q → is_some q.having ≡ true → 0 < length q.groups
+spelled_groups ts q s e = groups_by q.groups s.after_groups q.having s.after_having s.spells_having e

@@ -1,5 +1,5 @@
 -- A bound query that some text spells is valid.
-use Rattle.std.proofs.Common.{◌≡◌, ℕ, zero, suc, ◌<◌, nat_lt, nat_eq, Bool, true, false, ◌||◌, List, [], ◌∷◌, length, map, Option, Some, None, option_map, Result, Ok, Err, refl, sym, subst, arith, rules, tests, IfOk}
+use Rattle.std.proofs.Common.{◌≡◌, ℕ, ◌<◌, nat_lt, nat_eq, Bool, true, false, ◌||◌, List, [], ◌∷◌, length, map, Option, Some, None, option_map, Result, Ok, Err, refl, sym, subst, arith, rules, tests, IfOk}
 use Rattle.std.specs.List.{list_all, list_any, slice_get, IsDistinct}
 use Rattle.std.proofs.lemmas.Bool.{false≢true}
 use Rattle.std.proofs.lemmas.Option.{none-some}
@@ -24,7 +24,7 @@ use Rattle.query_bind.specs.declared.terms.TermAt.{TermAt}
 use Rattle.query_bind.specs.Faults.{fault_unless}
 use Rattle.query_bind.specs.Names.{term_of, table_finding, names_finding}
 use Rattle.query_bind.specs.Grouped.{is_call, aggregate_finding}
-use Rattle.query_bind.specs.Terms.{meaning_of, term_at, terms_of, with_agg, agg_of, aggs_from, groups_of, aggs_of}
+use Rattle.query_bind.specs.Terms.{meaning_of, term_at, terms_of, with_agg, agg_of, aggs_from, aggs_before_keys, groups_of, aggs_of}
 use Rattle.query_bind.specs.Bound.{Bound, Spelled, bound_of, bound, query_finding, items_of, in_normal_form, Binds}
 use Rattle.query_bind.specs.Places.{at_place}
 use Rattle.table_schema.proofs.FirstLaws.{first_none, rest_none}
@@ -32,17 +32,13 @@ use Rattle.query_bind.proofs.PlaceLemmas.{answered, items_are, keys_are, labels_
 use Rattle.query_bind.proofs.OnceLemmas.{groups_once, aggs_once, all_aggs_once}
 use Rattle.query_bind.proofs.WithinLemmas.{groups_in, all_aggs_in, all_conjuncts_in}
 use Rattle.query_bind.proofs.FitLemmas.{all_fit}
+use Rattle.query_bind.proofs.AskedLemmas.{within, asked_groups, asked_places, asked_types}
 use Rattle.query_bind.proofs.SeveralLemmas.{all_several}
 use Rattle.query_bind.proofs.FunctionLemmas.{functions_fit}
 use Rattle.query_bind.proofs.FirstLemmas.{agg_grows, aggs_grow, limits_kept}
 use Rattle.query_bind.proofs.Truth.{and_of}
 
 -- ---- places
-
-within : {A : Type 0} (xs : List A) (n : ℕ) (x : A) → slice_get xs n ≡ Some x → n < length xs
-within [] n x e = absurd (none-some x e)
-within (y ∷ ys) zero x e = omega arith
-within (y ∷ ys) (suc n) x e = omega (arith, within ys n x e)
 
 found_by : {A : Type 0} (f : A → Meaning) (xs : List A) (n : ℕ) (o : Option A) (m : Meaning) → slice_get xs n ≡ o → option_map f o ≡ Some m → nat_lt n (length xs) ≡ true
 found_by f xs n None m e is = absurd (none-some m is)
@@ -104,7 +100,7 @@ module _ (table : Table) (any_table : Bool) (q : Query) (b : Bound) (is : bound 
   some_aggs : 0 < length (aggs_of (terms_of fields q))
   some_aggs =
       let items = aggs_from [] (terms_of fields q).items in
-      omega (arith, some_from fields q.items some_call [], aggs_grow items (map (λ k. k.term) (terms_of fields q).keys))
+      omega (arith, some_from fields q.items some_call [], aggs_grow items (terms_of fields q).having, aggs_grow (aggs_before_keys (terms_of fields q)) (map (λ k. k.term) (terms_of fields q).keys))
 
   pub valid_query : IsValidQuery table (in_normal_form b)
   valid_query =
@@ -119,7 +115,7 @@ module _ (table : Table) (any_table : Bool) (q : Query) (b : Bound) (is : bound 
         few_groups = limits.0;
         aggs_known = all_aggs_in table any_table q b is;
         aggs_fit = functions_fit table any_table q b is spelled;
-        aggs_apart = subst (λ x. IsDistinct same_agg x.aggs) own.1 (aggs_once (aggs_from [] terms.items) (map (λ k. k.term) terms.keys) (all_aggs_once terms.items));
+        aggs_apart = subst (λ x. IsDistinct same_agg x.aggs) own.1 (aggs_once (aggs_before_keys terms) (map (λ k. k.term) terms.keys) (aggs_once (aggs_from [] terms.items) terms.having (all_aggs_once terms.items)));
         some_aggs = subst (λ x. 0 < length x.aggs) own.1 some_aggs;
         few_aggs = limits.1;
         some_items = subst (λ x. 0 < length x.items) own.1 (some_items fields (groups_of terms) (aggs_of terms) q.items some_call);
@@ -127,6 +123,9 @@ module _ (table : Table) (any_table : Bool) (q : Query) (b : Bound) (is : bound 
         label_each = labels_are table any_table q b is;
         keys_known = all_found b (λ k. k.item) (λ k. meaning_of fields (term_of q.items k.term)) b.order q.order (keys_are table any_table q b is);
         few_keys = limits.2;
+        having_grouped = asked_groups table any_table q b is spelled;
+        having_known = asked_places table any_table q b is spelled;
+        having_typed = asked_types table any_table q b is spelled;
       }
 
 -- what `bind` answers is valid

@@ -31,7 +31,8 @@ use Rattle.query_bind.specs.declared.fault.BindFault.TheVariants.{At}
 use Rattle.query_bind.specs.Faults.{Finding, fault_unless}
 use Rattle.query_bind.specs.Written.{Written, Compare, OneOf, Between, Not, All, Any, Members, no_members, member, members_of, field_number, written, written_step, where_written}
 use Rattle.query_bind.specs.Conjuncts.{opposite_if, members_of_all, members_of_any, conjoined, disjoined, all_of, any_of, normal, normals, only_field, conjunct_by, conjunct, where_conjuncts}
-use Rattle.query_bind.specs.Names.{term_of, column_finding, argument_finding, term_finding, condition_step, condition_finding, where_finding, table_finding, names_finding}
+use Rattle.query_bind.specs.GroupTests.{having_tests, having_finding}
+use Rattle.query_bind.specs.Names.{term_of, column_finding, argument_finding, term_finding, group_test_finding, condition_step, condition_finding, where_finding, table_finding, names_finding}
 use Rattle.query_bind.specs.Terms.{meaning_of, column_at, agg_of, with_column, columns_from}
 use Rattle.query_bind.specs.Bound.{Bound, bound_of, bound, query_finding}
 use Rattle.table_schema.proofs.NumberLaw.{number_in}
@@ -228,17 +229,17 @@ module _ (table : Table) (any_table : Bool) (q : Query) (b : Bound) (is : bound 
   items : first_in (λ i. term_finding fields i.term) q.items ≡ None
   items = first_none (first_in (λ i. term_finding fields i.term) q.items) _ names
 
-  after_items : first_of (where_finding fields q.condition ∷ first_in (column_finding fields) q.groups ∷ first_in (λ k. term_finding fields (term_of q.items k.term)) q.order ∷ []) ≡ None
+  after_items : first_of (where_finding fields q.condition ∷ first_in (column_finding fields) q.groups ∷ having_finding (group_test_finding fields) q.having ∷ first_in (λ k. term_finding fields (term_of q.items k.term)) q.order ∷ []) ≡ None
   after_items = rest_none (first_in (λ i. term_finding fields i.term) q.items) _ names
 
-  after_where : first_of (first_in (column_finding fields) q.groups ∷ first_in (λ k. term_finding fields (term_of q.items k.term)) q.order ∷ []) ≡ None
+  after_where : first_of (first_in (column_finding fields) q.groups ∷ having_finding (group_test_finding fields) q.having ∷ first_in (λ k. term_finding fields (term_of q.items k.term)) q.order ∷ []) ≡ None
   after_where = rest_none (where_finding fields q.condition) _ after_items
 
   pub groups_in : list_all (is_number_of fields) b.groups ≡ true
   groups_in = subst (λ x. list_all (is_number_of fields) x.groups ≡ true) own.1 (columns_in fields [] q.groups refl (first_none (first_in (column_finding fields) q.groups) _ after_where))
 
   pub all_aggs_in : list_all (agg_in fields) b.aggs ≡ true
-  all_aggs_in = subst (λ x. list_all (agg_in fields) x.aggs ≡ true) own.1 (aggs_are fields (agg_in fields) (λ t. true) (term_in fields) q names (all_true q.items) (all_true q.order))
+  all_aggs_in = subst (λ x. list_all (agg_in fields) x.aggs ≡ true) own.1 (aggs_are fields (agg_in fields) (λ t. true) (term_in fields) q names (all_true q.items) (all_true (having_tests q.having)) (all_true q.order))
 
   pub all_conjuncts_in : list_all (conjunct_known fields) (where_conjuncts b.condition) ≡ true
   all_conjuncts_in = subst (λ x. list_all (conjunct_known fields) (where_conjuncts x.condition) ≡ true) own.1 (where_in fields q.condition (first_none (where_finding fields q.condition) _ after_items))

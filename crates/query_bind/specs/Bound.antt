@@ -1,5 +1,5 @@
 -- The bound query of a query over a table, or the first check that it fails.
-use Rattle.std.specs.Prelude.{◌≡◌, ◌≢◌, ◌≤◌, ℕ, Bool, ◌==◌, List, [], ◌∷◌, ◌++◌, codes, map, length, Option, Some, None, Result, Ok, Err}
+use Rattle.std.specs.Prelude.{◌≡◌, ◌≢◌, ◌≤◌, ℕ, ℤ, pos, Bool, ◌==◌, List, [], ◌∷◌, ◌++◌, codes, map, length, Option, Some, None, option_map, Result, Ok, Err}
 use Rattle.std.specs.List.{position_or_len}
 use Rattle.table_schema.specs.declared.field.Field.{Field}
 use Rattle.table_schema.specs.declared.table.Table.{Table}
@@ -7,6 +7,11 @@ use Rattle.table_schema.specs.declared.query.Item.{Item}
 use Rattle.table_schema.specs.declared.query.Item.TheVariants as item
 use Rattle.table_schema.specs.declared.query.OrderKey.{OrderKey}
 use Rattle.table_schema.specs.declared.query.BoundQuery.{BoundQuery}
+use Rattle.table_schema.specs.declared.query.Having.{Having}
+use Rattle.table_schema.specs.declared.query.Having.TheVariants as having
+use Rattle.values.specs.declared.value.Value.{Value}
+use Rattle.values.specs.declared.value.Value.TheVariants as value
+use Rattle.values.specs.declared.test.CompareOp.{CompareOp}
 use Rattle.table_schema.specs.Names.{Text}
 use Rattle.query_tokens.specs.declared.tree.NameAt.{NameAt}
 use Rattle.query_tokens.specs.declared.tree.Func.{Func}
@@ -15,6 +20,9 @@ use Rattle.query_tokens.specs.declared.tree.Argument.{Argument}
 use Rattle.query_tokens.specs.declared.tree.Argument.TheVariants as argument
 use Rattle.query_tokens.specs.declared.tree.Term.{Term}
 use Rattle.query_tokens.specs.declared.tree.Term.TheVariants as term
+use Rattle.query_tokens.specs.declared.tree.HavingCond.{HavingCond}
+use Rattle.query_tokens.specs.declared.tree.HavingCond.TheOpen.{HavingCond-F}
+use Rattle.query_tokens.specs.declared.tree.HavingCond.TheFolds.{fold-HavingCond}
 use Rattle.query_tokens.specs.declared.tree.QueryItem.{QueryItem}
 use Rattle.query_tokens.specs.declared.tree.Query.{Query}
 use Rattle.query_tokens.specs.Lex.{Bytes}
@@ -34,7 +42,7 @@ use Rattle.query_bind.specs.declared.distinct.Lists.{Lists}
 use Rattle.table_schema.specs.declared.query.Conjunct.{Conjunct}
 use Rattle.query_bind.specs.declared.terms.KeyAt.{KeyAt}
 use Rattle.query_bind.specs.Grouped.{aggregate_finding, grouped_finding}
-use Rattle.query_bind.specs.Terms.{terms_of, lists_of, groups_of, aggs_of}
+use Rattle.query_bind.specs.Terms.{meaning_of, terms_of, lists_of, groups_of, aggs_of}
 use Rattle.query_bind.specs.Limits.{limits_finding, count_or}
 use Rattle.table_schema.specs.declared.query.Agg.{Agg}
 use Rattle.table_schema.specs.Firsts.{first_of}
@@ -57,6 +65,34 @@ keys_of groups aggs keys = map (λ k. record {
   item = item_of groups aggs k.term.meaning;
   descending = k.descending;
 }) keys
+
+-- ---- HAVING
+
+-- the number of a literal; 0 for a text, with which no call is compared
+abbrev pub whole_in : Value → ℤ
+whole_in (value.Whole z) = z
+whole_in (value.Text t) = pos 0
+
+-- a test by the place of what is tested
+abbrev pub test_of : Item → CompareOp → Value → Having
+test_of (item.Group place) op v = having.Group place op v
+test_of (item.Agg place) op v = having.Agg place op (whole_in v)
+
+-- one condition, with each condition in it by its places
+abbrev pub having_step : List Field → List ℕ → List Agg → HavingCond-F Having → Having
+having_step fields groups aggs (HavingCond-F.Compare tested op literal) = test_of
+    (item_of groups aggs (meaning_of fields tested)) op literal.value
+having_step fields groups aggs (HavingCond-F.Not inner) = having.Not inner
+having_step fields groups aggs (HavingCond-F.All inner) = having.All inner
+having_step fields groups aggs (HavingCond-F.Any inner) = having.Any inner
+
+-- a condition on a group as it is written, by places among the group columns and the aggregates
+abbrev pub having_of : List Field → List ℕ → List Agg → HavingCond → Having
+having_of fields groups aggs = fold-HavingCond Having (having_step fields groups aggs)
+
+-- that of a query, if it has HAVING
+abbrev pub asked_of : List Field → List ℕ → List Agg → Option HavingCond → Option Having
+asked_of fields groups aggs asked = option_map (having_of fields groups aggs) asked
 
 -- ---- labels
 
@@ -94,7 +130,7 @@ label_of i = label_by i.term i.label
 
 -- ---- the query
 
--- A query over the fields of a table, with its condition as written.
+-- A query over the fields of a table, with its condition and HAVING as written.
 pub record Bound : Type 0 where
   pub use_tree : Bool
   pub condition : Option Written
@@ -105,14 +141,15 @@ pub record Bound : Type 0 where
   pub order : List OrderKey
   pub offset : ℕ
   pub limit : ℕ
+  pub having : Option Having
 
 -- the terms of a query, and its group columns and aggregates, each once
 abbrev pub parts_of : List Field → Query → Terms × Lists
 parts_of fields q = (terms_of fields q, lists_of (terms_of fields q))
 
 -- a query of these parts, with any form of its condition
-abbrev pub assembled : Query → Terms → Lists → List Conjunct → BoundQuery
-assembled q terms lists conjuncts = record {
+abbrev pub assembled : List Field → Query → Terms → Lists → List Conjunct → BoundQuery
+assembled fields q terms lists conjuncts = record {
   use_tree = q.use_tree;
   conjuncts = conjuncts;
   groups = lists.groups;
@@ -122,6 +159,7 @@ assembled q terms lists conjuncts = record {
   order = keys_of lists.groups lists.aggs terms.keys;
   offset = count_or 0 q.offset;
   limit = count_or 10 q.limit;
+  having = asked_of fields lists.groups lists.aggs q.having;
 }
 
 -- a query whose names and types are in order
@@ -140,6 +178,7 @@ bound_of fields q =
       order = keys_of groups aggs terms.keys;
       offset = count_or 0 q.offset;
       limit = count_or 10 q.limit;
+      having = asked_of fields groups aggs q.having;
     }
 
 -- the first check that fails
@@ -173,6 +212,7 @@ in_normal_form b = record {
   order = b.order;
   offset = b.offset;
   limit = b.limit;
+  having = b.having;
 }
 
 -- what `bind` answers, unless memory runs out

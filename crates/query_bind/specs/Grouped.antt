@@ -8,6 +8,7 @@ use Rattle.query_tokens.specs.declared.tree.Term.TheVariants as term
 use Rattle.query_tokens.specs.declared.tree.Query.{Query}
 use Rattle.query_bind.specs.declared.fault.BindReason.TheVariants.{NoAggregate, NotGrouped}
 use Rattle.query_bind.specs.Faults.{Finding, fault_unless}
+use Rattle.query_bind.specs.GroupTests.{GroupTest, having_finding}
 use Rattle.query_bind.specs.Names.{term_of}
 use Rattle.table_schema.specs.Firsts.{first_of, first_in}
 
@@ -37,9 +38,14 @@ abbrev pub term_grouped : List NameAt → Term → Finding
 term_grouped groups (term.Column n) = group_finding groups n
 term_grouped groups (term.Call c) = None
 
--- each column of the select list and of ORDER BY is grouped
+-- the same of what a test of a group is of
+abbrev pub test_grouped : List NameAt → GroupTest → Finding
+test_grouped groups t = term_grouped groups t.tested
+
+-- each column of the select list, of HAVING and of ORDER BY is grouped
 abbrev pub grouped_finding : Query → Finding
 grouped_finding q = first_of (
     first_in (λ i. term_grouped q.groups i.term) q.items
+    ∷ having_finding (test_grouped q.groups) q.having
     ∷ first_in (λ k. term_grouped q.groups (term_of q.items k.term)) q.order
     ∷ [])

@@ -1,6 +1,7 @@
 pub mod Faults
 pub mod Written
 pub mod Conjuncts
+pub mod GroupTests
 pub mod Names
 pub mod FaultTexts
 pub mod Joints

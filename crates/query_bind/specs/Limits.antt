@@ -10,7 +10,7 @@ use Rattle.query_bind.specs.declared.terms.KeyAt.{KeyAt}
 use Rattle.query_bind.specs.declared.terms.ColumnAt.{ColumnAt}
 use Rattle.query_bind.specs.declared.terms.Terms.{Terms}
 use Rattle.query_bind.specs.Faults.{Finding, fault_if}
-use Rattle.query_bind.specs.Terms.{with_agg, with_column, aggs_from}
+use Rattle.query_bind.specs.Terms.{with_agg, with_column, aggs_from, aggs_before_keys}
 use Rattle.table_schema.specs.declared.query.Agg.{Agg}
 use Rattle.table_schema.specs.Firsts.{or_else, first_of}
 
@@ -36,12 +36,14 @@ keys_finding others kept (k ∷ ks) = or_else
     || nat_lt 16 (length (with_agg kept k.term.meaning))) TooMany k.term.offset)
     (keys_finding (others + 1) (with_agg kept k.term.meaning) ks)
 
--- the first fault of the aggregates of the select list, of GROUP BY and of ORDER BY, in this order
+-- the first fault of the aggregates of the select list, of GROUP BY, of the aggregates of HAVING and
+-- of ORDER BY, in this order
 abbrev pub limits_finding : Terms → Finding
 limits_finding terms = first_of (
     aggs_finding [] terms.items
     ∷ groups_finding [] terms.groups
-    ∷ keys_finding 0 (aggs_from [] terms.items) terms.keys
+    ∷ aggs_finding (aggs_from [] terms.items) terms.having
+    ∷ keys_finding 0 (aggs_before_keys terms) terms.keys
     ∷ [])
 
 -- ---- LIMIT and OFFSET

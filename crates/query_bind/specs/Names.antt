@@ -23,6 +23,7 @@ use Rattle.query_tokens.specs.declared.tree.Cond.TheFolds.{fold-Cond}
 use Rattle.query_tokens.specs.declared.tree.Query.{Query}
 use Rattle.query_bind.specs.declared.fault.BindReason.TheVariants.{UnknownTable, UnknownColumn, TypeMismatch, NotNumeric}
 use Rattle.query_bind.specs.Faults.{Finding, fault_unless}
+use Rattle.query_bind.specs.GroupTests.{GroupTest, having_finding}
 use Rattle.table_schema.specs.Firsts.{or_else, first_of, first_in}
 use Rattle.table_schema.specs.ValidQuery.{is_typed}
 
@@ -104,6 +105,18 @@ abbrev pub where_finding : List Field → Option Cond → Finding
 where_finding fields None = None
 where_finding fields (Some c) = condition_finding fields c
 
+-- ---- conditions on a group
+
+-- the type of what is tested: that of a column, and of a call whole numbers
+abbrev pub tested_kind : List Field → Term → Option FieldKind
+tested_kind fields (term.Column n) = kind_of fields n
+tested_kind fields (term.Call c) = Some kind.Long
+
+-- a test of a group: its column or its call, and then its literal
+abbrev pub group_test_finding : List Field → GroupTest → Finding
+group_test_finding fields t = or_else (term_finding fields t.tested)
+    (literal_finding (tested_kind fields t.tested) t.literal)
+
 -- ---- labels
 
 -- there is an AS name, and it is this one byte for byte
@@ -123,12 +136,13 @@ term_of items (term.Call c) = term.Call c
 
 -- ---- the query
 
--- the first fault in the names and literals of the select list, WHERE, GROUP BY and ORDER BY, in
--- this order
+-- the first fault in the names and literals of the select list, WHERE, GROUP BY, HAVING and ORDER
+-- BY, in this order
 abbrev pub names_finding : List Field → Query → Finding
 names_finding fields q = first_of (
     first_in (λ i. term_finding fields i.term) q.items
     ∷ where_finding fields q.condition
     ∷ first_in (column_finding fields) q.groups
+    ∷ having_finding (group_test_finding fields) q.having
     ∷ first_in (λ k. term_finding fields (term_of q.items k.term)) q.order
     ∷ [])

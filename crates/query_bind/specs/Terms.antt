@@ -13,6 +13,7 @@ use Rattle.query_tokens.specs.declared.tree.Term.{Term}
 use Rattle.query_tokens.specs.declared.tree.Term.TheVariants as term
 use Rattle.query_tokens.specs.declared.tree.QueryItem.{QueryItem}
 use Rattle.query_tokens.specs.declared.tree.QueryKey.{QueryKey}
+use Rattle.query_tokens.specs.declared.tree.HavingCond.{HavingCond}
 use Rattle.query_tokens.specs.declared.tree.Query.{Query}
 use Rattle.query_bind.specs.declared.terms.Meaning.{Meaning}
 use Rattle.query_bind.specs.declared.terms.Meaning.TheVariants as meaning
@@ -23,6 +24,7 @@ use Rattle.query_bind.specs.declared.terms.Terms.{Terms}
 use Rattle.query_bind.specs.declared.distinct.Lists.{Lists}
 use Rattle.query_bind.specs.Written.{field_number}
 use Rattle.query_bind.specs.Names.{term_of}
+use Rattle.query_bind.specs.GroupTests.{GroupTest, tests_of, having_tests}
 use Rattle.table_schema.specs.declared.query.Agg.{Agg}
 use Rattle.table_schema.specs.Aggs.{same_agg}
 
@@ -86,11 +88,24 @@ column_at fields n = record { column = field_number fields n; offset = n.offset 
 abbrev pub groups_at : List Field → Query → List ColumnAt
 groups_at fields q = map (column_at fields) q.groups
 
--- the terms of the select list, of GROUP BY and of ORDER BY
+-- what a test of a group is of
+abbrev pub tested_at : List Field → GroupTest → TermAt
+tested_at fields t = term_at fields t.tested
+
+-- what the tests of a condition are of
+abbrev pub tested_in : List Field → HavingCond → List TermAt
+tested_in fields having = map (tested_at fields) (tests_of having)
+
+-- what the tests of HAVING are of
+abbrev pub having_at : List Field → Query → List TermAt
+having_at fields q = map (tested_at fields) (having_tests q.having)
+
+-- the terms of the select list, of GROUP BY, of HAVING and of ORDER BY
 abbrev pub terms_of : List Field → Query → Terms
 terms_of fields q = record {
   items = items_at fields q;
   groups = groups_at fields q;
+  having = having_at fields q;
   keys = keys_at fields q;
 }
 
@@ -119,9 +134,13 @@ abbrev pub aggs_from : List Agg → List TermAt → List Agg
 aggs_from kept [] = kept
 aggs_from kept (t ∷ ts) = aggs_from (with_agg kept t.meaning) ts
 
--- over the items, and then the keys
+-- over the items, and then HAVING
+abbrev pub aggs_before_keys : Terms → List Agg
+aggs_before_keys terms = aggs_from (aggs_from [] terms.items) terms.having
+
+-- over the items, HAVING, and then the keys
 abbrev pub aggs_of : Terms → List Agg
-aggs_of terms = aggs_from (aggs_from [] terms.items) (map (λ k. k.term) terms.keys)
+aggs_of terms = aggs_from (aggs_before_keys terms) (map (λ k. k.term) terms.keys)
 
 -- the columns of GROUP BY, each once, in the order in which they first come
 abbrev pub groups_of : Terms → List ℕ

@@ -3,19 +3,21 @@
 ghost use Rattle.std.specs.Prelude.{◌≡◌, ◌≤◌, length, map, true, None, IfOk};
 ghost use Rattle.query_bind.specs.Written.{where_written};
 ghost use Rattle.query_bind.specs.Conjuncts.{KeepRows, where_conjuncts};
-ghost use Rattle.query_bind.specs.Names.{where_finding};
+ghost use Rattle.query_bind.specs.Names.{group_test_finding, where_finding};
+ghost use Rattle.query_bind.specs.GroupTests.{having_finding};
 ghost use Rattle.query_bind.specs.Limits as limits;
 ghost use Rattle.query_bind.specs.Bound as spec;
 
 use crate::conjuncts::conjuncts;
 use crate::distinct::Lists;
+use crate::group_tests::Tested;
 use crate::items::{Listed, items_of, keys_of};
 use crate::labels::labels;
 use crate::terms::Terms;
 use data_types::{Name, Seq};
 use query_tokens::{LiteralAt, Query};
 use std::alloc::Global;
-use table_schema::{BoundQuery, Fields, Item, OrderKey};
+use table_schema::{BoundQuery, Fields, Having, Item, OrderKey};
 use values::{NoMemory, Value};
 
 /// How many groups are answered where the query does not say.
@@ -38,16 +40,19 @@ pub(crate) fn assemble(
     lists: Lists,
 ) -> Result<BoundQuery, NoMemory>
     requires checked { where_finding fields.all.now query.now.condition ≡ None }
+    requires asked { having_finding
+        (group_test_finding fields.all.now) query.now.having ≡ None }
     requires at_most { (length lists.groups ≤ 8) × (length lists.aggs ≤ 16) }
     requires limit { limits.is_count query.now.limit ≡ true }
     requires offset { limits.is_count query.now.offset ≡ true }
-    ensures bound { IfOk result (λ bound. bound ≡ spec.assembled query.now terms.now lists
+    ensures bound { IfOk result (λ bound. bound ≡ spec.assembled fields.entry.all.now query.now terms.now lists
         (where_conjuncts (where_written fields.entry.all.now query.now.condition))) }
     ensures rows { IfOk result (λ bound.
         KeepRows bound.conjuncts (where_written fields.entry.all.now query.now.condition)) }
 {
     let conjuncts = conjuncts(alloc, fields, &query.condition)?;
     let shown = displayed(alloc, query, terms, &lists)?;
+    let having = asked(alloc, query, fields, &lists)?;
     Ok(BoundQuery {
         use_tree: query.use_tree,
         conjuncts,
@@ -58,6 +63,7 @@ pub(crate) fn assemble(
         order: shown.order,
         offset: count_or(0, &query.offset),
         limit: count_or(USUAL_LIMIT, &query.limit),
+        having,
     })
 }
 
@@ -73,6 +79,29 @@ fn count_or(usual: u64, literal: &Option<LiteralAt>) -> u64
         Value::Whole(number) => *number as u64,
         Value::Text(_) => unreachable!(),
     }
+}
+
+fn asked<'a>(
+    alloc: Global,
+    query: &Query,
+    fields: Fields<'a>,
+    lists: &'a Lists,
+) -> Result<Option<Having>, NoMemory>
+    requires at_most { (length lists.now.groups ≤ 8) × (length lists.now.aggs ≤ 16) }
+    requires asked { having_finding
+        (group_test_finding fields.all.now) query.now.having ≡ None }
+    ensures { IfOk result (λ having. having ≡ spec.asked_of fields.entry.all.now
+        lists.now.groups lists.now.aggs query.now.having) }
+{
+    let groups = lists.groups.as_slice();
+    let aggs = lists.aggs.as_slice();
+    let lists = Listed { groups, aggs };
+    let tested = Tested {
+        alloc,
+        fields,
+        lists,
+    };
+    tested.asked(&query.having)
 }
 
 fn displayed(alloc: Global, query: &Query, terms: &Terms, lists: &Lists) -> Result<Shown, NoMemory>

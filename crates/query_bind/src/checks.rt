@@ -9,6 +9,7 @@ ghost use Rattle.query_bind.specs.Faults.{Passes};
 ghost use Rattle.table_schema.specs.Firsts.{first_in};
 
 use crate::condition::check_condition;
+use crate::having::check_columns;
 use crate::lookups::QueryNames;
 use crate::{BindFault, BindReason};
 use query_tokens::{Cond, Query, QueryItem, QueryKey, Term};
@@ -54,11 +55,12 @@ fn has_call(items: &[QueryItem]) -> bool
     items.iter().any(|item| matches!(item.term, Term::Call(_)))
 }
 
-/// Whether each column of the select list and of ORDER BY is a group column.
+/// Whether each column of the select list, of HAVING and of ORDER BY is a group column.
 pub(crate) fn check_grouped(names: &QueryNames<'_>) -> Result<(), BindFault>
     ensures { Passes (spec.grouped_finding names.now.query.now) result }
 {
     check_items(names, names.query.items.as_slice())?;
+    check_columns(names, &names.query.having)?;
     check_keys(names, names.query.order.as_slice())
 }
 
@@ -83,7 +85,7 @@ fn check_keys<'q>(names: &QueryNames<'q>, keys: &'q [QueryKey]) -> Result<(), Bi
 }
 
 /// A column has to be one of GROUP BY.
-fn check_term(names: &QueryNames<'_>, term: &Term) -> Result<(), BindFault>
+pub(crate) fn check_term(names: &QueryNames<'_>, term: &Term) -> Result<(), BindFault>
     ensures { Passes (spec.term_grouped names.now.query.now.groups term.now) result }
 {
     match term {

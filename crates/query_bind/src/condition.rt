@@ -50,7 +50,7 @@ fn check_literals(kind: FieldKind, literals: &[LiteralAt]) -> Result<(), BindFau
     Ok(())
 }
 
-fn check_literal(kind: FieldKind, literal: &LiteralAt) -> Result<(), BindFault>
+pub(crate) fn check_literal(kind: FieldKind, literal: &LiteralAt) -> Result<(), BindFault>
     ensures { Passes (spec.literal_finding (Some kind) literal.now) result }
 {
     if is_of(kind, &literal.value) {

@@ -34,8 +34,9 @@ pub(crate) fn without_repeats(alloc: Global, terms: &Terms) -> Result<Lists, Bin
     ensures lists { Gives (limits.limits_finding terms.now) (spec.lists_of terms.now) result }
     ensures at_most { IfOk result (λ lists. (length lists.groups ≤ 8) × (length lists.aggs ≤ 16)) }
 {
-    let aggs = item_aggs(alloc, terms.items.as_slice())?;
+    let aggs = more_aggs(Seq::new(alloc), terms.items.as_slice())?;
     let groups = group_columns(alloc, terms.groups.as_slice())?;
+    let aggs = more_aggs(aggs, terms.having.as_slice())?;
     let aggs = key_aggs(aggs, terms.keys.as_slice())?;
     Ok(Lists { groups, aggs })
 }
@@ -71,12 +72,14 @@ fn push_column(columns: &mut Seq<u16>, name: ColumnAt) -> Result<(), BindFault>
     Ok(())
 }
 
-/// The aggregates of the items.
-fn item_aggs(alloc: Global, terms: &[TermAt]) -> Result<Seq<Agg>, BindFault>
-    ensures aggs { Gives (limits.aggs_finding [] terms.now) (spec.aggs_from [] terms.now) result }
+/// These aggregates, and after them those of some terms.
+fn more_aggs(before: Seq<Agg>, terms: &[TermAt]) -> Result<Seq<Agg>, BindFault>
+    requires { length before ≤ 16 }
+    ensures aggs { Gives (limits.aggs_finding before terms.now)
+        (spec.aggs_from before terms.now) result }
     ensures at_most { IfOk result (λ aggs. length aggs ≤ 16) }
 {
-    let mut aggs = Seq::new(alloc);
+    let mut aggs = before;
     for term in terms {
         push_agg(&mut aggs, *term)?;
     }

@@ -9,13 +9,13 @@ pub enum BindReason {
     UnknownTable,
     /// A column that is no field.
     UnknownColumn,
-    /// A number beside a field of texts, or a text beside a field of numbers.
+    /// A number beside a field of texts, or a text beside a field of numbers or a call.
     TypeMismatch,
     /// A sum, an extreme or an average of a field of texts.
     NotNumeric,
     /// No aggregate in the select list.
     NoAggregate,
-    /// A column of the select list or of ORDER BY that GROUP BY does not name.
+    /// A column of the select list, of HAVING or of ORDER BY that GROUP BY does not name.
     NotGrouped,
     /// More group columns, aggregates or ORDER BY keys than are taken.
     TooMany,

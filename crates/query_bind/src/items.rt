@@ -47,7 +47,7 @@ fn agg_place(aggs: &[Agg], agg: Agg) -> u16
     aggs.len() as u16
 }
 
-fn item_of(lists: Listed, meaning: Meaning) -> Item
+pub(crate) fn item_of(lists: Listed, meaning: Meaning) -> Item
     ensures { result ≡ spec.item_of lists.entry.groups.now lists.entry.aggs.now meaning }
 {
     match meaning {

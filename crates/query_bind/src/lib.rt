@@ -13,6 +13,8 @@ mod condition;
 mod conjuncts;
 mod distinct;
 mod fault;
+mod group_tests;
+mod having;
 mod items;
 mod labels;
 pub mod laws;

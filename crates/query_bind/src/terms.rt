@@ -8,6 +8,7 @@ ghost use Rattle.table_schema.specs.Firsts.{first_in};
 
 use crate::checks::check_where;
 use crate::columns::{column, kind_of};
+use crate::having::{check_having, having_at};
 use crate::lookups::QueryNames;
 use crate::{BindFault, BindReason};
 use agg_laws::AggKind;
@@ -49,6 +50,7 @@ pub struct ColumnAt {
 pub struct Terms {
     pub items: Seq<TermAt>,
     pub groups: Seq<ColumnAt>,
+    pub having: Seq<TermAt>,
     pub keys: Seq<KeyAt>,
 }
 
@@ -83,7 +85,7 @@ fn resolve_argument(
     Ok(Some(number))
 }
 
-fn resolve_term(fields: Fields, term: &Term) -> Result<Meaning, BindFault>
+pub(crate) fn resolve_term(fields: Fields, term: &Term) -> Result<Meaning, BindFault>
     ensures { Resolves (naming.term_finding fields.entry.all.now term.now)
         (spec.meaning_of fields.entry.all.now term.now) result }
 {
@@ -105,7 +107,7 @@ fn resolve_term(fields: Fields, term: &Term) -> Result<Meaning, BindFault>
 }
 
 /// The byte where a term begins.
-fn place(term: &Term) -> u32
+pub(crate) fn place(term: &Term) -> u32
     ensures { result ≡ spec.place term.now }
 {
     match term {
@@ -189,11 +191,14 @@ pub(crate) fn resolve(
     let items = items_at(alloc, fields, query.items.as_slice())?;
     check_where(fields, &query.condition)?;
     let groups = groups_at(alloc, fields, query.groups.as_slice())?;
+    check_having(fields, &query.having)?;
+    let having = having_at(alloc, fields, &query.having)?;
     let order = query.order.as_slice();
     let keys = keys_at(alloc, fields, names, order)?;
     Ok(Terms {
         items,
         groups,
+        having,
         keys,
     })
 }

@@ -16,16 +16,21 @@ use Rattle.query_tokens.specs.declared.tree.QueryItem.{QueryItem}
 use Rattle.query_tokens.specs.declared.tree.QueryKey.{QueryKey}
 use Rattle.query_tokens.specs.declared.tree.Query.{Query}
 use Rattle.query_tokens.specs.declared.tree.Cond.{Cond}
+use Rattle.query_tokens.specs.declared.tree.HavingCond.{HavingCond}
+use Rattle.query_tokens.specs.declared.tree.HavingCond.TheVariants.{Compare}
+use Rattle.values.specs.declared.test.CompareOp.{CompareOp}
 use Rattle.query_tokens.specs.Lex.{Bytes, is_last, same_kind}
 use Rattle.query_tokens.specs.Stream.{Lexeme, Stream, kind, place, number, word, next}
-use Rattle.query_parser.specs.Reading.{Parser, ◌>>=◌, ◌>>◌, ◌<$>◌, pure, take_token, sees, after, eat, expect, name, separated}
+use Rattle.query_parser.specs.Reading.{Parser, ◌>>=◌, ◌>>◌, ◌<$>◌, pure, take_token, sees, after, eat, expect, name, literal, separated}
+use Rattle.query_parser.specs.Operators.{operator}
 use Rattle.query_parser.specs.Cond as c
 use Rattle.query_parser.specs.Query as q
-use Rattle.query_parser.specs.Spells.{Rule, IsToken, Skips, SpellsName, SpellsCondition}
-use Rattle.query_parser.specs.SpellsQuery.{SpellsArgument, SpellsCall, SpellsTerm, SpellsOptional, SpellsListed, SpellsItem, SpellsDirection, SpellsKey, SpellsBy, SpellsCount, SpellsLimits, SpellsSet, SpellsSets, SpellsEnding, SpellsQuery}
-use Rattle.query_parser.specs.Shrinks.{Shrinks, name_shrinks}
+use Rattle.query_parser.specs.Spells.{Rule, IsToken, Skips, SpellsName, SpellsFactor, SpellsCondition}
+use Rattle.query_parser.specs.SpellsQuery.{SpellsArgument, SpellsCall, SpellsTerm, SpellsGroupTest, SpellsHaving, SpellsHavingIf, SpellsOptional, SpellsListed, SpellsItem, SpellsDirection, SpellsKey, SpellsBy, SpellsCount, SpellsLimits, SpellsSet, SpellsSets, SpellsEnding, SpellsQuery}
+use Rattle.query_parser.specs.Shrinks.{Shrinks, name_shrinks, factor_shrinks}
+use Rattle.query_parser.specs.TermShrinks.{having_test_shrinks}
 use Rattle.query_parser.proofs.Takes.{item_shrinks, key_shrinks, option_shrinks}
-use Rattle.query_parser.proofs.Again.{sees_at, next_at, kind_at, expect_again, kind_again, next_again, name_again, then, not_after, list_again, condition_again}
+use Rattle.query_parser.proofs.Again.{sees_at, next_at, kind_at, expect_again, kind_again, next_again, name_again, literal_again, op_goes_on, then, not_after, list_again, factor_again, cond_again, condition_again}
 
 -- ---- what may follow
 
@@ -118,6 +123,51 @@ term_again ts x us free s = elim s [
       ∙ ap (λ b. cond b (q.call_of column.0.offset (q.func_of column.0.name) us) (Ok (term.Column column.0, us))) free ∙ ap (λ y. Ok (y, us)) (sym column.2)
   | inr call ↦ call_again ts x us call
 ]
+
+-- ---- conditions on a group
+
+not_open : (kd : Kind) (op : CompareOp) → operator kd ≡ Some op → same_kind kd k.LParen ≡ false
+unfolding operator same_kind
+not_open k.Eq op h = refl
+not_open k.Ne op h = refl
+not_open k.Lt op h = refl
+not_open k.Le op h = refl
+not_open k.Gt op h = refl
+not_open k.Ge op h = refl
+not_open _ op h = absurd (cc)
+
+no_call : (t : Lexeme) (us : Stream) (op : CompareOp) → operator t.kind ≡ Some op → sees k.LParen (t ∷ us) ≡ false
+unfolding sees kind
+no_call t us op h = not_open t.kind op h
+
+sign_again : (tested : Term) (op : CompareOp) (v : LiteralAt) (t : Lexeme) (rest us : Stream) → operator t.kind ≡ Some op → literal rest ≡ Ok (v, us) → q.having_compared tested (operator (kind (t ∷ rest))) (t ∷ rest) ≡ Ok (Compare tested op v, us)
+unfolding kind
+sign_again tested op v t rest us is value =
+    ap (λ o. q.having_compared tested o (t ∷ rest)) is
+    ∙ ap (Compare tested op <$> literal) (next_at t.kind t rest refl (op_goes_on t.kind op is))
+    ∙ then literal _ rest us v value
+
+group_test_again : (ts : Stream) (x : HavingCond) (us : Stream) → SpellsGroupTest ts x us → q.having_test ts ≡ Ok (x, us)
+unfolding q.having_test
+group_test_again ts x us s =
+    then q.term_of _ ts (s.sign ∷ s.rest) s.tested (term_again ts s.tested (s.sign ∷ s.rest) (no_call s.sign s.rest s.op s.is_op) s.spells_term)
+    ∙ sign_again s.tested s.op s.value s.sign s.rest us s.is_op (literal_again s.rest s.value us s.spells_value)
+    ∙ ap (λ y. Ok (y, us)) (sym s.tree)
+
+term_kind : (ts : Stream) (x : Term) (us : Stream) → SpellsTerm ts x us → kind ts ≡ k.Name
+term_kind ts x us s = elim s [
+  | inl column ↦ kind_again k.Name ts us (column.1.0, column.1.1)
+  | inr call ↦ kind_again k.Name ts call.at_open (call.spells_name.0, call.spells_name.1)
+]
+
+having_again : (ts : Stream) (x : HavingCond) (us : Stream) → SpellsHaving ts x us → sees k.And us ≡ false → sees k.Or us ≡ false → q.having ts ≡ Ok (x, us)
+unfolding q.having
+having_again ts x us s a o =
+    cond_again q.group_joints (SpellsFactor SpellsGroupTest q.group_joints c.deepest) (c.factor q.having_test q.group_joints c.deepest)
+    (factor_again SpellsGroupTest q.having_test q.group_joints group_test_again (λ ts x us h. term_kind ts h.tested (h.sign ∷ h.rest) h.spells_term) having_test_shrinks c.deepest)
+    (factor_shrinks q.having_test q.group_joints having_test_shrinks c.deepest) ts x us s a o
+
+-- ---- items and keys
 
 abbrev item_ends : List Kind
 item_ends = k.Comma ∷ k.From ∷ []
@@ -214,8 +264,11 @@ order_ends = k.Limit ∷ limit_ends
 abbrev group_ends : List Kind
 group_ends = k.Order ∷ order_ends
 
+abbrev having_ends : List Kind
+having_ends = k.Having ∷ group_ends
+
 abbrev where_ends : List Kind
-where_ends = k.Group ∷ group_ends
+where_ends = k.Group ∷ having_ends
 
 by_again : {A : Type 0} (rule : Rule A) (item : Parser A) (Ends : Stream → Type 0) → ((ts : Stream) (x : A) (us : Stream) → rule ts x us → Ends us → item ts ≡ Ok (x, us))
     → ((t : Lexeme) (us : Stream) → t.kind ≡ k.Comma → Ends (t ∷ us)) → Shrinks item → (ts : Stream) (xs : List A) (us : Stream) → Ends us → sees k.Comma us ≡ false → SpellsBy rule ts xs us
@@ -224,12 +277,24 @@ unfolding is_last
 by_again rule item Ends each commas shrinks ts xs us ends last s =
     then (expect k.By) (λ _. separated k.Comma item) ts s.0 tt (expect_again k.By ts s.0 refl s.1) ∙ list_again k.Comma rule item Ends refl each commas shrinks xs s.0 us s.2 ends last
 
-groups_again : (ts : Stream) (xs : List NameAt) (us : Stream) → OneIn group_ends (kind us) → SpellsListed k.Group (SpellsBy SpellsName) ts xs us → q.groups ts ≡ Ok (xs, us)
+groups_again : (ts : Stream) (xs : List NameAt) (us : Stream) → OneIn having_ends (kind us) → SpellsListed k.Group (SpellsBy SpellsName) ts xs us → q.groups ts ≡ Ok (xs, us)
 unfolding q.groups is_last same_kind
 groups_again ts xs us one s =
     listed_again k.Group (SpellsBy SpellsName) (expect k.By >> separated k.Comma name) ts xs us refl
-    (λ ts xs h. by_again SpellsName name (λ _. Unit {0}) (λ ts x us h _. name_again ts us x h) (λ _ _ _. tt) name_shrinks ts xs us tt (unseen group_ends k.Comma us refl one) h)
-    (λ e. unseen group_ends k.Group ts refl (subst (λ (r : Stream). OneIn group_ends (kind r)) e one)) s
+    (λ ts xs h. by_again SpellsName name (λ _. Unit {0}) (λ ts x us h _. name_again ts us x h) (λ _ _ _. tt) name_shrinks ts xs us tt (unseen having_ends k.Comma us refl one) h)
+    (λ e. unseen having_ends k.Group ts refl (subst (λ (r : Stream). OneIn having_ends (kind r)) e one)) s
+
+having_if_again : (gs : List NameAt) (ts : Stream) (o : Option HavingCond) (us : Stream) → OneIn group_ends (kind us) → SpellsHavingIf gs ts o us → q.having_if gs ts ≡ Ok (o, us)
+unfolding q.having_if is_last same_kind
+having_if_again [] ts o us one s = ap₂ (λ x r. Ok (x, r)) (sym s.1) (sym s.0)
+having_if_again (g ∷ gs) ts o us one s =
+    optional_again k.Having SpellsHaving q.having ts o us refl
+    (λ ts x h. having_again ts x us h (unseen group_ends k.And us refl one) (unseen group_ends k.Or us refl one))
+    (λ e. unseen group_ends k.Having ts refl (subst (λ (r : Stream). OneIn group_ends (kind r)) e one)) s
+
+having_kind : (gs : List NameAt) (ts : Stream) (o : Option HavingCond) (us : Stream) → SpellsHavingIf gs ts o us → OneIn group_ends (kind us) → OneIn having_ends (kind ts)
+having_kind [] ts o us s one = inr (subst (λ (r : Stream). OneIn group_ends (kind r)) s.0 one)
+having_kind (g ∷ gs) ts o us s one = optional_kind k.Having SpellsHaving ts o us group_ends s one
 
 order_again : (ts : Stream) (xs : List QueryKey) (us : Stream) → OneIn order_ends (kind us) → SpellsListed k.Order (SpellsBy SpellsKey) ts xs us → q.order ts ≡ Ok (xs, us)
 unfolding q.order is_last same_kind
@@ -296,8 +361,9 @@ unfolding q.query is_last same_kind
 query_again ts x s =
     let end = ending_kind s.at_end s.ends in
     let after_order = limits_kind s.after_order x.limit x.offset s.at_end end s.spells_limits in
-    let after_groups = listed_kind k.Order (SpellsBy SpellsKey) s.after_groups x.order s.after_order order_ends s.spells_order after_order in
-    let after_condition = listed_kind k.Group (SpellsBy SpellsName) s.after_condition x.groups s.after_groups group_ends s.spells_groups after_groups in
+    let after_having = listed_kind k.Order (SpellsBy SpellsKey) s.after_having x.order s.after_order order_ends s.spells_order after_order in
+    let after_groups = having_kind x.groups s.after_groups x.having s.after_having s.spells_having after_having in
+    let after_condition = listed_kind k.Group (SpellsBy SpellsName) s.after_condition x.groups s.after_groups having_ends s.spells_groups after_groups in
     let last = ending_again s.at_end s.ends in
     let is_select : kind s.at_select ≡ k.Select = kind_again k.Select s.at_select s.at_items (s.select, s.spells_select) in
     let is_from : kind s.at_from ≡ k.From = kind_again k.From s.at_from s.at_table s.from in (
@@ -311,7 +377,8 @@ query_again ts x s =
           ∙ then name _ s.at_table s.after_table x.table (name_again s.at_table s.after_table x.table s.spells_table)
           ∙ then q.condition_if _ s.after_table s.after_condition x.condition (condition_if_again s.after_table x.condition s.after_condition after_condition s.spells_condition)
           ∙ then q.groups _ s.after_condition s.after_groups x.groups (groups_again s.after_condition x.groups s.after_groups after_groups s.spells_groups)
-          ∙ then q.order _ s.after_groups s.after_order x.order (order_again s.after_groups x.order s.after_order after_order s.spells_order)
+          ∙ then (q.having_if x.groups) _ s.after_groups s.after_having x.having (having_if_again x.groups s.after_groups x.having s.after_having after_having s.spells_having)
+          ∙ then q.order _ s.after_having s.after_order x.order (order_again s.after_having x.order s.after_order after_order s.spells_order)
           ∙ then q.closing _ s.after_order last.0 (x.limit, x.offset) (closing_again s.after_order x.limit x.offset s.at_end last.0 end s.spells_limits last.1)
           ∙ ap (λ n. Ok (record x { select = n }, last.0)) (place_again k.Select s.at_select s.at_items s.select s.spells_select ∙ sym s.select_at),
     )

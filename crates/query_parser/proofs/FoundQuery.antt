@@ -15,17 +15,21 @@ use Rattle.query_tokens.specs.declared.tree.QueryItem.{QueryItem}
 use Rattle.query_tokens.specs.declared.tree.QueryKey.{QueryKey}
 use Rattle.query_tokens.specs.declared.tree.Query.{Query}
 use Rattle.query_tokens.specs.declared.tree.Cond.{Cond}
+use Rattle.query_tokens.specs.declared.tree.HavingCond.{HavingCond}
+use Rattle.query_tokens.specs.declared.tree.HavingCond.TheVariants.{Compare}
+use Rattle.values.specs.declared.test.CompareOp.{CompareOp}
 use Rattle.query_tokens.specs.Lex.{Bytes, is_last}
 use Rattle.query_tokens.specs.Stream.{Lexeme, Stream, kind, place, number, word, next}
-use Rattle.query_parser.specs.Reading.{Outcome, Parser, and_then, ◌>>=◌, ◌>>◌, ◌<$>◌, pure, refusal, take_token, sees, after, eat, expect, name, separated}
+use Rattle.query_parser.specs.Reading.{Outcome, Parser, and_then, ◌>>=◌, ◌>>◌, ◌<$>◌, pure, refusal, take_token, sees, after, eat, expect, name, literal, separated}
+use Rattle.query_parser.specs.Operators.{operator}
 use Rattle.query_parser.specs.Cond as c
 use Rattle.query_parser.specs.Query as q
-use Rattle.query_parser.specs.Spells.{Rule, Skips, SpellsName, SpellsCondition}
-use Rattle.query_parser.specs.SpellsQuery.{SpellsArgument, SpellsCall, SpellsTerm, SpellsOptional, SpellsListed, SpellsItem, SpellsDirection, SpellsKey, SpellsBy, SpellsCount, SpellsLimits, SpellsSet, SpellsSets, SpellsEnding, SpellsQuery}
+use Rattle.query_parser.specs.Spells.{Rule, Skips, SpellsName, SpellsLiteral, SpellsFactor, SpellsCondition}
+use Rattle.query_parser.specs.SpellsQuery.{SpellsArgument, SpellsCall, SpellsTerm, SpellsGroupTest, SpellsHaving, SpellsHavingIf, SpellsOptional, SpellsListed, SpellsItem, SpellsDirection, SpellsKey, SpellsBy, SpellsCount, SpellsLimits, SpellsSet, SpellsSets, SpellsEnding, SpellsQuery}
 use Rattle.query_parser.specs.Shrinks.{ok, rest_is, bind_ok, sees_kind}
-use Rattle.query_parser.proofs.Again.{not_after}
+use Rattle.query_parser.proofs.Again.{not_after, op_goes_on}
 use Rattle.query_parser.proofs.AgainQuery.{value_goes_on}
-use Rattle.query_parser.proofs.Found.{not_ok, value_is, token_at, skips_next, expect_found, name_found, list_found, condition_found}
+use Rattle.query_parser.proofs.Found.{not_ok, value_is, token_at, skips_next, expect_found, name_found, literal_found, list_found, factor_found, cond_found, condition_found}
 
 -- what was read first, and the rest after it
 with_ok : {A B P : Type 0} (o : Outcome A) (f : A → Parser B) (y : B × Stream) → and_then o f ≡ Ok y → ((a : A) (mid : Stream) → o ≡ Ok (a, mid) → f a mid ≡ Ok y → P) → P
@@ -134,6 +138,38 @@ term_found ts x us e =
     let m = bind_ok (name ts) q.following_name (x, us) e in
     following_step (sees k.LParen m.0.1) m.0.0 ts m.0.1 x us (name_found ts m.0.1 m.0.0 m.1) refl m.2
 
+-- ---- conditions on a group
+
+compared_found : (o : Option CompareOp) (ts mid : Stream) (t : Term) (x : HavingCond) (us : Stream) → SpellsTerm ts t mid → operator (kind mid) ≡ o → q.having_compared t o mid ≡ Ok (x, us) → SpellsGroupTest ts x us
+compared_found (Some op) ts mid t x us spells is e =
+    let s = token_at (kind mid) mid refl (op_goes_on (kind mid) op is) in
+    let l = bind_ok (literal (next mid)) _ (x, us) e in
+    let rest = rest_is (Compare t op l.0.0) x l.0.1 us l.2 in
+    record {
+      tested = t;
+      op = op;
+      value = l.0.0;
+      sign = s.0;
+      rest = next mid;
+      spells_term = subst (λ (r : Stream). SpellsTerm ts t r) s.1.0 spells;
+      is_op = ap operator s.1.1 ∙ is;
+      spells_value = subst (λ (r : Stream). SpellsLiteral (next mid) l.0.0 r) (sym rest) (literal_found (next mid) l.0.0 l.0.1 l.1);
+      tree = value_is (Compare t op l.0.0) x l.0.1 us l.2;
+    }
+compared_found None ts mid t x us spells is e = absurd (cc)
+
+group_test_found : (ts : Stream) (x : HavingCond) (us : Stream) → q.having_test ts ≡ Ok (x, us) → SpellsGroupTest ts x us
+unfolding q.having_test
+group_test_found ts x us e =
+    let m = bind_ok (q.term_of ts) _ (x, us) e in
+    compared_found (operator (kind m.0.1)) ts m.0.1 m.0.0 x us (term_found ts m.0.0 m.0.1 m.1) refl m.2
+
+having_found : (ts : Stream) (x : HavingCond) (us : Stream) → q.having ts ≡ Ok (x, us) → SpellsHaving ts x us
+unfolding q.having
+having_found ts x us e =
+    (cond_found q.group_joints (SpellsFactor SpellsGroupTest q.group_joints c.deepest) (c.factor q.having_test q.group_joints c.deepest)
+    (factor_found SpellsGroupTest q.having_test q.group_joints group_test_found c.deepest) ts x us e).0
+
 item_found : (ts : Stream) (i : QueryItem) (us : Stream) → q.item ts ≡ Ok (i, us) → SpellsItem ts i us
 unfolding q.item q.label is_last
 item_found ts i us e =
@@ -237,6 +273,11 @@ by_found rule item each ts xs us e =
 groups_found : (ts : Stream) (xs : List NameAt) (us : Stream) → q.groups ts ≡ Ok (xs, us) → SpellsListed k.Group (SpellsBy SpellsName) ts xs us
 unfolding q.groups is_last
 groups_found ts xs us e = listed_found k.Group SpellsName (expect k.By >> separated k.Comma name) ts xs us refl (by_found SpellsName name (λ ts x us h. name_found ts us x h)) e
+
+having_if_found : (gs : List NameAt) (ts : Stream) (o : Option HavingCond) (us : Stream) → q.having_if gs ts ≡ Ok (o, us) → SpellsHavingIf gs ts o us
+unfolding q.having_if is_last
+having_if_found [] ts o us e = (rest_is None o ts us e, value_is None o ts us e)
+having_if_found (g ∷ gs) ts o us e = optional_found k.Having SpellsHaving q.having ts o us refl having_found e
 
 order_found : (ts : Stream) (xs : List QueryKey) (us : Stream) → q.order ts ≡ Ok (xs, us) → SpellsListed k.Order (SpellsBy SpellsKey) ts xs us
 unfolding q.order is_last
@@ -347,10 +388,11 @@ query_found ts x us e =
     with_ok (name at_table) _ (x, us) e (λ table after_table te e.
     with_ok (q.condition_if after_table) _ (x, us) e (λ condition after_condition we e.
     with_ok (q.groups after_condition) _ (x, us) e (λ groups after_groups ge e.
-    with_ok (q.order after_groups) _ (x, us) e (λ order after_order re e.
+    with_ok (q.having_if groups after_groups) _ (x, us) e (λ having after_having he e.
+    with_ok (q.order after_having) _ (x, us) e (λ order after_order re e.
     with_ok (q.closing after_order) _ (x, us) e (λ limits rest le e.
     let z = closing_found after_order limits rest le in
-    let made : Query = record { use_tree = use_tree; select = place at_select; items = items; table = table; condition = condition; groups = groups; order = order; limit = limits.0; offset = limits.1 } in
+    let made : Query = record { use_tree = use_tree; select = place at_select; items = items; table = table; condition = condition; groups = groups; having = having; order = order; limit = limits.0; offset = limits.1 } in
     let sets = sets_found _ ts true use_tree at_select oe in
     let word = expect_found k.Select at_select at_items u refl se in
     subst (λ (z : Query). SpellsQuery ts z) (sym (value_is made x rest us e)) (record {
@@ -362,6 +404,7 @@ query_found ts x us e =
       after_table = after_table;
       after_condition = after_condition;
       after_groups = after_groups;
+      after_having = after_having;
       after_order = after_order;
       at_end = z.0;
       select = word.0;
@@ -373,7 +416,8 @@ query_found ts x us e =
       spells_table = name_found at_table after_table table te;
       spells_condition = condition_if_found after_table condition after_condition we;
       spells_groups = groups_found after_condition groups after_groups ge;
-      spells_order = order_found after_groups order after_order re;
+      spells_having = having_if_found groups after_groups having after_having he;
+      spells_order = order_found after_having order after_order re;
       spells_limits = z.1;
       ends = z.2;
-    }))))))))))
+    })))))))))))

@@ -13,8 +13,9 @@ use Rattle.query_tokens.specs.declared.tree.LiteralAt.{LiteralAt}
 use Rattle.query_tokens.specs.declared.tree.Func.{Func}
 use Rattle.query_tokens.specs.declared.tree.Argument.TheVariants as argument
 use Rattle.query_tokens.specs.declared.tree.Term.TheVariants as term
-use Rattle.query_tokens.specs.declared.tree.Cond.{Cond}
+use Rattle.query_tokens.specs.declared.tree.Term.{Term}
 use Rattle.query_tokens.specs.declared.tree.Cond.TheVariants.{Compare}
+use Rattle.query_tokens.specs.declared.tree.HavingCond.TheVariants as having
 use Rattle.query_tokens.specs.Lex.{Bytes, is_last}
 use Rattle.query_tokens.specs.Stream.{Stream, kind, place, number, word, next}
 use Rattle.query_parser.specs.Reading.{Outcome, Parser, and_then, ◌>>=◌, ◌>>◌, ◌<$>◌, pure, refuse, peek, take_token, sees, eat, expect, name, literal, separated}
@@ -22,6 +23,7 @@ use Rattle.query_parser.specs.Operators.{operator}
 use Rattle.query_parser.specs.Cond as c
 use Rattle.query_parser.specs.Query as q
 use Rattle.query_parser.specs.Shrinks.{Shrinks, sees_kind, name_goes_on, name_shrinks, literal_shrinks, test_shrinks, conjunction_shrinks, factor_shrinks}
+use Rattle.query_parser.specs.TermShrinks.{having_test_shrinks}
 use Rattle.query_parser.proofs.Takes.{item_shrinks, key_shrinks, option_shrinks}
 use Rattle.query_parser.proofs.Seen.{Agree, Past, Alike, chosen_alike, chosen_past, token_from, From, Behind, Local, following, looks, bind_local, pure_local, look_local, stop_local, refuse_local, too_deep_local, choose_local, take_local, peek_local, token_local, sees_same, expect_local, eat_local, name_local, literal_local, separated_local}
 
@@ -88,25 +90,30 @@ module _ (A B : Stream) (n : ℕ) (agree : Agree A B n) where
   unfolding c.cond
   cond_local j factor less own = bind (separated k.Or (c.conjunction j factor)) _ (separated_local A B n agree k.Or (c.conjunction j factor) (conjunction_shrinks j factor less) (conjunction_local j factor less own)) (λ cs. done _)
 
-  factor_by_local : (negated grouped : Parser Cond) (kd : Kind) → L negated → L grouped → L (c.factor_by c.predicate c.row_joints negated grouped kd)
-  factor_by_local negated grouped k.Not own other = own
-  factor_by_local negated grouped k.LParen own other = other
-  factor_by_local negated grouped k.Name own other = test_local
-  factor_by_local negated grouped _ own other = refused
+  -- any sort of test that is read alike and takes a token
+  module _ {C : Type 0} (leaf : Parser C) (j : c.Joints C) (takes : Shrinks leaf) (read : L leaf) where
+    factor_by_local : (negated grouped : Parser C) (kd : Kind) → L negated → L grouped → L (c.factor_by leaf j negated grouped kd)
+    factor_by_local negated grouped k.Not own other = own
+    factor_by_local negated grouped k.LParen own other = other
+    factor_by_local negated grouped k.Name own other = read
+    factor_by_local negated grouped _ own other = refused
 
-  factor_local : (depth : ℕ) → L (c.factor c.predicate c.row_joints depth)
-  unfolding c.factor
-  factor_local zero = bind peek _ peeked (λ kd. factor_by_local _ _ kd (too_deep_local A B n agree) (too_deep_local A B n agree))
-  factor_local (suc depth) =
-      let inner = c.factor c.predicate c.row_joints depth in
-      bind peek _ peeked (λ kd. factor_by_local _ _ kd
-      (bind take_token _ took (λ _. bind inner _ (factor_local depth) (λ x. done (c.row_joints.not_of x))))
-      (bind take_token _ took (λ _. bind (c.cond c.row_joints inner) _ (cond_local c.row_joints inner (factor_shrinks c.predicate c.row_joints test_shrinks depth) (factor_local depth))
-      (λ x. bind (expect k.RParen) _ (skip k.RParen) (λ _. done x)))))
+    factor_local : (depth : ℕ) → L (c.factor leaf j depth)
+    unfolding c.factor
+    factor_local zero = bind peek _ peeked (λ kd. factor_by_local _ _ kd (too_deep_local A B n agree) (too_deep_local A B n agree))
+    factor_local (suc depth) =
+        let inner = c.factor leaf j depth in
+        bind peek _ peeked (λ kd. factor_by_local _ _ kd
+        (bind take_token _ took (λ _. bind inner _ (factor_local depth) (λ x. done (j.not_of x))))
+        (bind take_token _ took (λ _. bind (c.cond j inner) _ (cond_local j inner (factor_shrinks leaf j takes depth) (factor_local depth))
+        (λ x. bind (expect k.RParen) _ (skip k.RParen) (λ _. done x)))))
+
+    whole_local : L (c.cond j (c.factor leaf j c.deepest))
+    whole_local = cond_local j (c.factor leaf j c.deepest) (factor_shrinks leaf j takes c.deepest) (factor_local c.deepest)
 
   condition_local : L c.condition
   unfolding c.condition
-  condition_local = cond_local c.row_joints (c.factor c.predicate c.row_joints c.deepest) (factor_shrinks c.predicate c.row_joints test_shrinks c.deepest) (factor_local c.deepest)
+  condition_local = whole_local c.predicate c.row_joints test_shrinks test_local
 
   -- ---- terms
 
@@ -165,6 +172,20 @@ module _ (A B : Stream) (n : ℕ) (agree : Agree A B n) where
     from = λ i inside. token_from A B n agree (sees k.Name) (λ ts. record { name = word ts; offset = place ts }) q.following_name name_goes (sees_same A B n agree k.Name)
         (λ ts us e. ap (λ t. record { name = t.value; offset = t.at }) e) i inside (λ more. following_name_at i (record { name = word (drop i A); offset = place (drop i A) }) inside more refl);
   }
+
+  -- ---- conditions on a group
+
+  having_compared_local : (t : Term) (op : Option CompareOp) → L (q.having_compared t op)
+  having_compared_local t (Some op) = bind take_token _ took (λ _. bind literal _ literals (λ v. done (having.Compare t op v)))
+  having_compared_local t None = refused
+
+  having_test_local : L q.having_test
+  unfolding q.having_test
+  having_test_local = bind q.term_of _ term_local (λ t. bind peek _ peeked (λ kd. having_compared_local t (operator kd)))
+
+  having_local : L q.having
+  unfolding q.having
+  having_local = whole_local q.having_test q.group_joints having_test_shrinks having_test_local
 
   -- ---- items and keys
 
@@ -328,6 +349,11 @@ module _ (A B : Stream) (n : ℕ) (agree : Agree A B n) where
   unfolding q.groups
   groups_local = listed_local k.Group (expect k.By >> separated k.Comma name) (bind (expect k.By) _ (skip k.By) (λ _. separated_local A B n agree k.Comma name name_shrinks (name_local A B n agree)))
 
+  having_if_local : (gs : List NameAt) → L (q.having_if gs)
+  unfolding q.having_if
+  having_if_local [] = done None
+  having_if_local (g ∷ gs) = optional_local k.Having q.having having_local
+
   order_local : L q.order
   unfolding q.order
   order_local = listed_local k.Order (expect k.By >> separated k.Comma q.key) (bind (expect k.By) _ (skip k.By) (λ _. separated_local A B n agree k.Comma q.key key_shrinks key_local))
@@ -361,5 +387,6 @@ module _ (A B : Stream) (n : ℕ) (agree : Agree A B n) where
   query_local =
       bind q.options _ options_local (λ use_tree. bind q.here _ here_local (λ select. bind (expect k.Select) _ (skip k.Select)
       (λ _. bind (separated k.Comma q.item) _ (separated_local A B n agree k.Comma q.item item_shrinks item_local) (λ items. bind (expect k.From) _ (skip k.From)
-      (λ _. bind name _ (name_local A B n agree) (λ table. bind q.condition_if _ condition_if_local (λ cond. bind q.groups _ groups_local (λ group. bind q.order _ order_local
-      (λ keys. bind q.closing _ closing_local (λ limit. done (record { use_tree = use_tree; select = select; items = items; table = table; condition = cond; groups = group; order = keys; limit = limit.0; offset = limit.1 })))))))))))
+      (λ _. bind name _ (name_local A B n agree) (λ table. bind q.condition_if _ condition_if_local (λ cond. bind q.groups _ groups_local (λ group. bind (q.having_if group) _ (having_if_local group)
+      (λ having. bind q.order _ order_local
+      (λ keys. bind q.closing _ closing_local (λ limit. done (record { use_tree = use_tree; select = select; items = items; table = table; condition = cond; groups = group; having = having; order = keys; limit = limit.0; offset = limit.1 }))))))))))))

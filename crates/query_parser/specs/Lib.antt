@@ -4,6 +4,7 @@ pub mod Operators
 pub mod Cond
 pub mod Query
 pub mod Shrinks
+pub mod TermShrinks
 pub mod Spells
 pub mod SpellsQuery
 pub mod Final

@@ -1,5 +1,5 @@
 -- How queries are read.
-use Rattle.std.specs.Prelude.{◌≡◌, ◌≢◌, ℕ, ℤ, pos, negsuc, zero, suc, Bool, true, false, not, ◌&&◌, if◌then◌else◌, List, [], length, Option, Some, None, Result, Ok, Err, codes}
+use Rattle.std.specs.Prelude.{◌≡◌, ◌≢◌, ℕ, ℤ, pos, negsuc, zero, suc, Bool, true, false, not, ◌&&◌, if◌then◌else◌, List, [], ◌∷◌, length, Option, Some, None, Result, Ok, Err, codes}
 use Rattle.std.specs.Str.{str_eq_ignore_ascii_case}
 use Rattle.query_tokens.specs.declared.token.Kind.{Kind}
 use Rattle.query_tokens.specs.declared.token.Kind.TheVariants as k
@@ -19,10 +19,15 @@ use Rattle.query_tokens.specs.declared.tree.QueryItem.{QueryItem}
 use Rattle.query_tokens.specs.declared.tree.QueryKey.{QueryKey}
 use Rattle.query_tokens.specs.declared.tree.Query.{Query}
 use Rattle.query_tokens.specs.declared.tree.Cond.{Cond}
+use Rattle.query_tokens.specs.declared.tree.HavingCond.{HavingCond}
+use Rattle.query_tokens.specs.declared.tree.HavingCond.TheVariants.{Compare, Not, All, Any}
+use Rattle.values.specs.declared.test.CompareOp.{CompareOp}
 use Rattle.query_tokens.specs.Lex.{Bytes}
 use Rattle.query_tokens.specs.Stream.{kind, place, number, word, next, tokens}
-use Rattle.query_parser.specs.Reading.{Outcome, Parser, ◌>>=◌, ◌>>◌, ◌<$>◌, pure, refuse, peek, take_token, sees, eat, expect, name, separated}
-use Rattle.query_parser.specs.Cond.{condition}
+use Rattle.query_parser.specs.Reading.{Outcome, Parser, ◌>>=◌, ◌>>◌, ◌<$>◌, pure, refuse, peek, take_token, sees, eat, expect, name, literal, separated}
+use Rattle.query_parser.specs.Operators.{operator}
+use Rattle.query_parser.specs.Cond.{Joints, factor, deepest, condition}
+use Rattle.query_parser.specs.Cond as conditions
 
 -- the place of the next token
 abbrev pub here : Parser ℕ
@@ -82,6 +87,30 @@ following_name n = λ ts. if sees k.LParen ts then call_of n.offset (func_of n.n
 -- a column or a call
 unfoldable pub term_of : Parser Term
 term_of = name >>= following_name
+
+-- ---- conditions on a group
+
+-- after the term of a test, at the sign
+abbrev pub having_compared : Term → Option CompareOp → Parser HavingCond
+having_compared t (Some op) = take_token >> Compare t op <$> literal
+having_compared t None = refuse
+
+-- a test of one column or call
+unfoldable pub having_test : Parser HavingCond
+having_test = do
+  t ← term_of
+  kind ← peek
+  having_compared t (operator kind)
+
+-- how conditions on a group are put together
+abbrev pub group_joints : Joints HavingCond
+group_joints = record { not_of = Not; all_of = All; any_of = Any }
+
+-- what follows HAVING
+unfoldable pub having : Parser HavingCond
+having = conditions.cond group_joints (factor having_test group_joints deepest)
+
+-- ---- items and keys
 
 -- what the word brings, where it stands there
 abbrev pub optional : {A : Type 0} → Kind → Parser A → Parser (Option A)
@@ -183,6 +212,11 @@ count = λ ts. if sees k.Number ts && is_natural (number ts) then Ok
 unfoldable pub groups : Parser (List NameAt)
 groups = listed k.Group (expect k.By >> separated k.Comma name)
 
+-- HAVING, which stands only behind the columns of GROUP BY
+unfoldable pub having_if : List NameAt → Parser (Option HavingCond)
+having_if [] = pure None
+having_if (g ∷ gs) = optional k.Having having
+
 -- ORDER BY
 unfoldable pub order : Parser (List QueryKey)
 order = listed k.Order (expect k.By >> separated k.Comma key)
@@ -219,6 +253,7 @@ query = do
   table ← name
   cond ← condition_if
   group ← groups
+  having ← having_if group
   keys ← order
   limit ← closing
   pure (record {
@@ -228,6 +263,7 @@ query = do
     table = table;
     condition = cond;
     groups = group;
+    having = having;
     order = keys;
     limit = limit.0;
     offset = limit.1;

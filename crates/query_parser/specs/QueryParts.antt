@@ -6,7 +6,7 @@ use Rattle.query_tokens.specs.declared.token.Kind.TheVariants as k
 use Rattle.query_tokens.specs.declared.tree.NameAt.{NameAt}
 use Rattle.query_tokens.specs.declared.tree.Query.{Query}
 use Rattle.query_parser.specs.Reading.{Parser, ◌>>=◌, ◌>>◌, pure, expect, name, separated}
-use Rattle.query_parser.specs.Query.{here, item, option_value, checked, set_option, options, condition_if, groups, order, closing}
+use Rattle.query_parser.specs.Query.{here, item, option_value, checked, set_option, options, condition_if, groups, having_if, order, closing}
 
 -- from the value of an option on
 unfoldable pub valued : Bool → NameAt → Parser Bool
@@ -30,9 +30,16 @@ selection = do
 unfoldable pub shape : Parser Shaped
 shape = do
   group ← groups
+  having ← having_if group
   keys ← order
   limit ← closing
-  pure (record { groups = group; order = keys; limit = limit.0; offset = limit.1 })
+  pure (record {
+    groups = group;
+    having = having;
+    order = keys;
+    limit = limit.0;
+    offset = limit.1;
+  })
 
 -- a whole query by these parts
 unfoldable pub query : Parser Query
@@ -48,6 +55,7 @@ query = do
     table = s.table;
     condition = cond;
     groups = e.groups;
+    having = e.having;
     order = e.order;
     limit = e.limit;
     offset = e.offset;

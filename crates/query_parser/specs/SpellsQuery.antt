@@ -10,13 +10,18 @@ use Rattle.query_tokens.specs.declared.tree.Argument.{Argument}
 use Rattle.query_tokens.specs.declared.tree.Argument.TheVariants as argument
 use Rattle.query_tokens.specs.declared.tree.Term.{Term}
 use Rattle.query_tokens.specs.declared.tree.Term.TheVariants as term
+use Rattle.query_tokens.specs.declared.tree.HavingCond.{HavingCond}
+use Rattle.query_tokens.specs.declared.tree.HavingCond.TheVariants.{Compare}
+use Rattle.values.specs.declared.test.CompareOp.{CompareOp}
 use Rattle.query_tokens.specs.declared.tree.QueryItem.{QueryItem}
 use Rattle.query_tokens.specs.declared.tree.QueryKey.{QueryKey}
 use Rattle.query_tokens.specs.declared.tree.Query.{Query}
 use Rattle.query_tokens.specs.Lex.{Bytes}
 use Rattle.query_tokens.specs.Stream.{Lexeme, Stream, kind, tokens}
-use Rattle.query_parser.specs.Query.{func_of, is_count, is_natural, is_value, set_option, query}
-use Rattle.query_parser.specs.Spells.{Rule, IsToken, Skips, SpellsName, SpellsList, SpellsCondition}
+use Rattle.query_parser.specs.Operators.{operator}
+use Rattle.query_parser.specs.Cond.{deepest}
+use Rattle.query_parser.specs.Query.{func_of, is_count, is_natural, is_value, set_option, group_joints, query}
+use Rattle.query_parser.specs.Spells.{Rule, IsToken, Skips, SpellsName, SpellsLiteral, SpellsList, SpellsCond, SpellsFactor, SpellsCondition}
 
 -- `*` for COUNT, or a column
 abbrev pub SpellsArgument : Func → Rule Argument
@@ -51,6 +56,31 @@ SpellsOptional kd rule ts (Some a) us = (mid : Stream) × Skips kd ts mid × rul
 abbrev pub SpellsListed : {A : Type 0} → Kind → Rule (List A) → Rule (List A)
 SpellsListed kd rule ts [] us = us ≡ ts
 SpellsListed kd rule ts (x ∷ xs) us = (mid : Stream) × Skips kd ts mid × rule mid (x ∷ xs) us
+
+-- ---- conditions on a group
+
+-- column or call, sign, literal
+pub record SpellsGroupTest (ts : Stream) (c : HavingCond) (us : Stream) : Type 0 where
+  pub tested : Term
+  pub op : CompareOp
+  pub value : LiteralAt
+  pub sign : Lexeme
+  pub rest : Stream
+  pub spells_term : SpellsTerm ts tested (sign ∷ rest)
+  pub is_op : operator sign.kind ≡ Some op
+  pub spells_value : SpellsLiteral rest value us
+  pub tree : c ≡ Compare tested op value
+
+-- a condition on a group
+abbrev pub SpellsHaving : Rule HavingCond
+SpellsHaving = SpellsCond group_joints (SpellsFactor SpellsGroupTest group_joints deepest)
+
+-- HAVING, which stands only behind the columns of GROUP BY
+abbrev pub SpellsHavingIf : List NameAt → Rule (Option HavingCond)
+SpellsHavingIf [] ts h us = (us ≡ ts) × (h ≡ None)
+SpellsHavingIf (g ∷ gs) ts h us = SpellsOptional k.Having SpellsHaving ts h us
+
+-- ---- items, keys and the end
 
 -- an item of the select list
 abbrev pub SpellsItem : Rule QueryItem
@@ -117,6 +147,7 @@ pub record SpellsQuery (ts : Stream) (q : Query) : Type 0 where
   pub after_table : Stream
   pub after_condition : Stream
   pub after_groups : Stream
+  pub after_having : Stream
   pub after_order : Stream
   pub at_end : Stream
   pub select : Lexeme
@@ -130,7 +161,8 @@ pub record SpellsQuery (ts : Stream) (q : Query) : Type 0 where
       after_condition
   pub spells_groups : SpellsListed k.Group
       (SpellsBy SpellsName) after_condition q.groups after_groups
-  pub spells_order : SpellsListed k.Order (SpellsBy SpellsKey) after_groups q.order after_order
+  pub spells_having : SpellsHavingIf q.groups after_groups q.having after_having
+  pub spells_order : SpellsListed k.Order (SpellsBy SpellsKey) after_having q.order after_order
   pub spells_limits : SpellsLimits after_order q.limit q.offset at_end
   pub ends : SpellsEnding at_end
 

@@ -5,6 +5,7 @@
 
 mod condition;
 mod cursor;
+mod having;
 pub mod laws;
 mod lists;
 mod operators;

@@ -8,10 +8,12 @@ ghost use Rattle.query_parser.specs.Reading.{Reads};
 use crate::Tokens;
 use crate::lists::{Member, list};
 use crate::terms::name;
+use crate::whole_condition::having;
 use data_types::{Name, Seq};
 use query_tokens::lex::same_word;
 use query_tokens::{
-    Argument, Call, Func, Kind, LiteralAt, NameAt, QueryFault, QueryItem, QueryKey, Reason, Term,
+    Argument, Call, Func, HavingCond, Kind, LiteralAt, NameAt, QueryFault, QueryItem, QueryKey,
+    Reason, Term,
 };
 use std::alloc::Global;
 use values::Value;
@@ -70,6 +72,24 @@ fn groups(alloc: Global, tokens: &mut Tokens<'_>) -> Result<Seq<NameAt>, QueryFa
     }
     tokens.expect(Kind::By)?;
     list::<NameAt>(alloc, tokens, Kind::Comma)
+}
+
+// What HAVING asks of a group: it stands only behind the columns of GROUP BY.
+#[tactic(auto, unfolding(crate::specs::Query::having_if))]
+fn having_if(
+    alloc: Global,
+    tokens: &mut Tokens<'_>,
+    groups: &[NameAt],
+) -> Result<Option<HavingCond>, QueryFault>
+    ensures { Reads (spec.having_if groups.now tokens.old) result tokens.new }
+{
+    if groups.is_empty() {
+        return Ok(None);
+    }
+    if !tokens.eat(Kind::Having) {
+        return Ok(None);
+    }
+    Ok(Some(having(alloc, tokens)?))
 }
 
 #[tactic(auto, unfolding(crate::specs::Query::order))]
@@ -141,10 +161,11 @@ pub fn selection(alloc: Global, tokens: &mut Tokens<'_>) -> Result<Selected, Que
     })
 }
 
-/// How the rows are grouped and put in order, and how many are wanted.
+/// How the rows are grouped, which groups are wanted, in which order and how many.
 #[derive(Drop)]
 pub struct Shaped {
     pub groups: Seq<NameAt>,
+    pub having: Option<HavingCond>,
     pub order: Seq<QueryKey>,
     pub limit: Option<LiteralAt>,
     pub offset: Option<LiteralAt>,
@@ -156,10 +177,12 @@ pub fn shape(alloc: Global, tokens: &mut Tokens<'_>) -> Result<Shaped, QueryFaul
     ensures { Reads (parts.shape tokens.old) result tokens.new }
 {
     let groups = groups(alloc, tokens)?;
+    let having = having_if(alloc, tokens, groups.as_slice())?;
     let order = order(alloc, tokens)?;
     let (limit, offset) = closing(tokens)?;
     Ok(Shaped {
         groups,
+        having,
         order,
         limit,
         offset,
@@ -234,7 +257,7 @@ fn call(
 }
 
 #[tactic(auto, unfolding(crate::specs::Query::term_of))]
-fn term(alloc: Global, tokens: &mut Tokens<'_>) -> Result<Term, QueryFault>
+pub(crate) fn term(alloc: Global, tokens: &mut Tokens<'_>) -> Result<Term, QueryFault>
     ensures { Reads (spec.term_of tokens.old) result tokens.new }
 {
     let name = name(alloc, tokens)?;

@@ -8,4 +8,6 @@ mod tree;
 
 pub use fault::{QueryFault, Reason};
 pub use token::{Kind, Token};
-pub use tree::{Argument, Call, Cond, Func, LiteralAt, NameAt, Query, QueryItem, QueryKey, Term};
+pub use tree::{
+    Argument, Call, Cond, Func, HavingCond, LiteralAt, NameAt, Query, QueryItem, QueryKey, Term,
+};

@@ -61,6 +61,16 @@ pub enum Term {
     Call(Call),
 }
 
+/// A condition on a group. `All` and `Any` hold the two or more members of one AND or OR as written;
+/// parentheses leave no trace but their grouping.
+#[derive(Drop)]
+pub enum HavingCond {
+    Compare(Term, CompareOp, LiteralAt),
+    Not(Boxed<HavingCond>),
+    All(Seq<HavingCond>),
+    Any(Seq<HavingCond>),
+}
+
 /// A term of the select list, with the name after AS.
 #[derive(Drop)]
 pub struct QueryItem {
@@ -76,7 +86,8 @@ pub struct QueryKey {
 }
 
 /// A whole query. `use_tree` is false where the last `SET useStarTree` says `false`; `select` is
-/// the place of SELECT. `limit` and `offset` are whole numbers from 0 on.
+/// the place of SELECT. HAVING stands only behind GROUP BY. `limit` and `offset` are whole numbers
+/// from 0 on.
 #[derive(Drop)]
 pub struct Query {
     pub use_tree: bool,
@@ -85,6 +96,7 @@ pub struct Query {
     pub table: NameAt,
     pub condition: Option<Cond>,
     pub groups: Seq<NameAt>,
+    pub having: Option<HavingCond>,
     pub order: Seq<QueryKey>,
     pub limit: Option<LiteralAt>,
     pub offset: Option<LiteralAt>,

@@ -15,6 +15,10 @@ use Rattle.query_tokens.specs.declared.tree.Cond.{Cond}
 use Rattle.query_tokens.specs.declared.tree.Cond.TheOpen.{Cond-F}
 use Rattle.query_tokens.specs.declared.tree.Cond.TheFolds.{fold-roll-Cond, ind-Cond, map-Cond}
 use Rattle.query_tokens.specs.declared.tree.Cond.TheViews.{roll-Cond}
+use Rattle.query_tokens.specs.declared.tree.HavingCond.{HavingCond}
+use Rattle.query_tokens.specs.declared.tree.HavingCond.TheOpen.{HavingCond-F}
+use Rattle.query_tokens.specs.declared.tree.HavingCond.TheFolds.{fold-roll-HavingCond, ind-HavingCond, map-HavingCond}
+use Rattle.query_tokens.specs.declared.tree.HavingCond.TheViews.{roll-HavingCond}
 use Rattle.query_tokens.specs.declared.tree.Query.{Query}
 use Rattle.query_bind.specs.declared.fault.BindReason.{BindReason}
 use Rattle.query_bind.specs.declared.fault.BindReason.TheVariants.{NotNumeric}
@@ -25,10 +29,11 @@ use Rattle.query_bind.specs.declared.terms.KeyAt.{KeyAt}
 use Rattle.query_bind.specs.declared.terms.ColumnAt.{ColumnAt}
 use Rattle.query_bind.specs.declared.terms.Terms.{Terms}
 use Rattle.query_bind.specs.Faults.{Finding, fault_if, fault_unless}
+use Rattle.query_bind.specs.GroupTests.{GroupTest, having_step, first_test, having_finding}
 use Rattle.query_bind.specs.Names as names
 use Rattle.query_bind.specs.Grouped as grouped
 use Rattle.query_bind.specs.Limits.{aggs_finding, groups_finding, keys_finding, limits_finding}
-use Rattle.query_bind.specs.Terms.{aggs_from, terms_of, with_agg, with_column}
+use Rattle.query_bind.specs.Terms.{aggs_from, aggs_before_keys, terms_of, with_agg, with_column}
 use Rattle.query_bind.specs.Bound.{answer, bound, bound_of, query_finding}
 
 -- a fault with its place
@@ -72,6 +77,33 @@ term_finds fields (term.Call c) = argument_finds fields c.func c.argument
 test_finds : (fields : List Field) (n : NameAt) (ls : List LiteralAt) → Finds (names.test_finding fields n ls)
 test_finds fields n ls = else_finds (names.column_finding fields n) _ (column_finds fields n) (in_finds (names.literal_finding (names.kind_of fields n)) (λ l. unless_finds _ _ _) ls)
 
+group_test_finds : (fields : List Field) (t : GroupTest) → Finds (names.group_test_finding fields t)
+group_test_finds fields t = else_finds (names.term_finding fields t.tested) _ (term_finds fields t.tested) (unless_finds _ _ _)
+
+-- any check of the tests of HAVING
+module _ (check : GroupTest → Finding) (each : (t : GroupTest) → Finds (check t)) where
+  abbrev IsTold : HavingCond → Type 0
+  IsTold h = Finds (first_test check h)
+
+  inner_told : (inner : List ((h : HavingCond) × IsTold h)) → Finds (first_of (map (first_test check) (map (λ e. e.0) inner)))
+  inner_told [] = tt
+  inner_told (h ∷ hs) = else_finds (first_test check h.0) _ h.1 (inner_told hs)
+
+  layer_told : (y : HavingCond-F ((h : HavingCond) × IsTold h)) → Finds (having_step check (map-HavingCond HavingCond Finding (first_test check) (map-HavingCond ((h : HavingCond) × IsTold h) HavingCond (λ e. e.0) y)))
+  layer_told (HavingCond-F.Compare t op l) = each (record { tested = t; literal = l })
+  layer_told (HavingCond-F.Not inner) = inner.1
+  layer_told (HavingCond-F.All inner) = inner_told inner
+  layer_told (HavingCond-F.Any inner) = inner_told inner
+
+  first_test_finds : (h : HavingCond) → IsTold h
+  first_test_finds = ind-HavingCond IsTold (λ x y is. subst (λ layer. IsTold (roll-HavingCond layer)) is (
+      let z = map-HavingCond ((h : HavingCond) × IsTold h) HavingCond (λ p. p.0) y in
+      subst Finds (sym (fold-roll-HavingCond Finding (having_step check) z)) (layer_told y)))
+
+  having_finds : (o : Option HavingCond) → Finds (having_finding check o)
+  having_finds None = tt
+  having_finds (Some h) = first_test_finds h
+
 module _ (fields : List Field) where
   abbrev IsPlaced : Cond → Type 0
   IsPlaced c = Finds (names.condition_finding fields c)
@@ -102,7 +134,8 @@ module _ (fields : List Field) where
       else_finds (first_in (λ i. names.term_finding fields i.term) q.items) _ (in_finds _ (λ i. term_finds fields i.term) q.items)
       (else_finds (names.where_finding fields q.condition) _ (where_finds q.condition)
       (else_finds (first_in (names.column_finding fields) q.groups) _ (in_finds _ (column_finds fields) q.groups)
-      (else_finds (first_in (λ k. names.term_finding fields (names.term_of q.items k.term)) q.order) _ (in_finds _ (λ k. term_finds fields (names.term_of q.items k.term)) q.order) tt)))
+      (else_finds (having_finding (names.group_test_finding fields) q.having) _ (having_finds (names.group_test_finding fields) (group_test_finds fields) q.having)
+      (else_finds (first_in (λ k. names.term_finding fields (names.term_of q.items k.term)) q.order) _ (in_finds _ (λ k. term_finds fields (names.term_of q.items k.term)) q.order) tt))))
 
 -- ---- groups and limits
 
@@ -113,7 +146,8 @@ term_grouped_finds groups (term.Call c) = tt
 grouped_finds : (q : Query) → Finds (grouped.grouped_finding q)
 grouped_finds q =
     else_finds (first_in (λ i. grouped.term_grouped q.groups i.term) q.items) _ (in_finds _ (λ i. term_grouped_finds q.groups i.term) q.items)
-    (else_finds (first_in (λ k. grouped.term_grouped q.groups (names.term_of q.items k.term)) q.order) _ (in_finds _ (λ k. term_grouped_finds q.groups (names.term_of q.items k.term)) q.order) tt)
+    (else_finds (having_finding (grouped.test_grouped q.groups) q.having) _ (having_finds (grouped.test_grouped q.groups) (λ t. term_grouped_finds q.groups t.tested) q.having)
+    (else_finds (first_in (λ k. grouped.term_grouped q.groups (names.term_of q.items k.term)) q.order) _ (in_finds _ (λ k. term_grouped_finds q.groups (names.term_of q.items k.term)) q.order) tt))
 
 aggs_finds : (kept : List Agg) (ts : List TermAt) → Finds (aggs_finding kept ts)
 aggs_finds kept [] = tt
@@ -131,7 +165,8 @@ limits_finds : (terms : Terms) → Finds (limits_finding terms)
 limits_finds terms =
     else_finds (aggs_finding [] terms.items) _ (aggs_finds [] terms.items)
     (else_finds (groups_finding [] terms.groups) _ (groups_finds [] terms.groups)
-    (else_finds (keys_finding 0 (aggs_from [] terms.items) terms.keys) _ (keys_finds 0 (aggs_from [] terms.items) terms.keys) tt))
+    (else_finds (aggs_finding (aggs_from [] terms.items) terms.having) _ (aggs_finds (aggs_from [] terms.items) terms.having)
+    (else_finds (keys_finding 0 (aggs_before_keys terms) terms.keys) _ (keys_finds 0 (aggs_before_keys terms) terms.keys) tt)))
 
 query_finds : (table : Table) (any_table : Bool) (q : Query) → Finds (query_finding table any_table q)
 query_finds table any_table q =

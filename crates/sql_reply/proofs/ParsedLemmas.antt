@@ -10,6 +10,8 @@ use Rattle.query_tokens.specs.declared.tree.LiteralAt.{LiteralAt}
 use Rattle.query_tokens.specs.declared.fault.Reason.TheVariants.{UnsupportedOption}
 use Rattle.query_tokens.specs.declared.tree.Argument.TheVariants as argument
 use Rattle.query_tokens.specs.declared.tree.Cond.TheVariants.{Compare}
+use Rattle.query_tokens.specs.declared.tree.HavingCond.TheVariants as asked
+use Rattle.query_tokens.specs.declared.tree.Term.{Term}
 use Rattle.query_tokens.specs.declared.tree.Term.TheVariants as term
 use Rattle.values.specs.declared.test.CompareOp.{CompareOp}
 use Rattle.query_tokens.specs.declared.tree.Func.{Func}
@@ -178,6 +180,18 @@ term_tells : Tells q.term_of
 unfolding q.term_of
 term_tells = bind name _ name_tells following_tells
 
+asked_tells : (t : Term) (op : Option CompareOp) → Tells (q.having_compared t op)
+asked_tells t (Some op) = bind take_token _ take_tells (λ _. bind literal _ literal_tells (λ l. pure_tells (asked.Compare t op l)))
+asked_tells t None = refuse_tells
+
+group_test_tells : Tells q.having_test
+unfolding q.having_test
+group_test_tells = bind q.term_of _ term_tells (λ t. bind peek _ peek_tells (λ kd. asked_tells t (operator kd)))
+
+having_tells : Tells q.having
+unfolding q.having
+having_tells = cond_tells q.group_joints (c.factor q.having_test q.group_joints c.deepest) (factor_tells q.having_test q.group_joints group_test_tells c.deepest)
+
 some_tells : {A : Type 0} (p : Parser A) (b : Bool) → Tells p → Tells (cond b (Some <$> p) (pure None))
 some_tells p true own = bind p _ own (λ a. pure_tells (Some a))
 some_tells p false own = pure_tells None
@@ -277,6 +291,11 @@ groups_tells : Tells q.groups
 unfolding q.groups
 groups_tells = listed_tells k.Group (expect k.By >> separated k.Comma name) (listed_by name name_tells)
 
+having_if_tells : (gs : List NameAt) → Tells (q.having_if gs)
+unfolding q.having_if
+having_if_tells [] = pure_tells None
+having_if_tells (g ∷ gs) = optional_tells k.Having q.having having_tells
+
 order_tells : Tells q.order
 unfolding q.order
 order_tells = listed_tells k.Order (expect k.By >> separated k.Comma q.key) (listed_by q.key key_tells)
@@ -286,9 +305,9 @@ unfolding q.query
 query_tells =
     bind q.options _ (λ ts e. options_tells (suc (length ts)) true ts e) (λ use_tree. bind q.here _ (λ ts e. absurd cc) (λ select. bind (expect k.Select) _ (expect_tells k.Select) (λ _.
     bind (separated k.Comma q.item) _ (separated_tells k.Comma q.item item_tells) (λ items. bind (expect k.From) _ (expect_tells k.From) (λ _. bind name _ name_tells (λ table.
-    bind q.condition_if _ condition_if_tells (λ condition. bind q.groups _ groups_tells (λ group.
+    bind q.condition_if _ condition_if_tells (λ condition. bind q.groups _ groups_tells (λ group. bind (q.having_if group) _ (having_if_tells group) (λ having.
     bind q.order _ order_tells (λ keys. bind q.closing _ closing_tells (λ limit.
-    pure_tells (record { use_tree = use_tree; select = select; items = items; table = table; condition = condition; groups = group; order = keys; limit = limit.0; offset = limit.1 })))))))))))
+    pure_tells (record { use_tree = use_tree; select = select; items = items; table = table; condition = condition; groups = group; having = having; order = keys; limit = limit.0; offset = limit.1 }))))))))))))
 
 tree_tells : (o : Outcome Query) → (o ≡ Err NoMemory → ⊥) → q.tree_or_fault o ≡ Err NoMemory → ⊥
 tree_tells (Ok p) own e = absurd cc

@@ -1,5 +1,5 @@
 -- Valid queries over the fields of a table: what each call that takes one may rely on.
-use Rattle.std.specs.Prelude.{◌≡◌, ℕ, ◌<◌, ◌≤◌, ◌==◌, nat_eq, nat_lt, Bool, true, false, not, ◌&&◌, List, [], ◌∷◌, length, flat_map, Option, Some, None, option_map}
+use Rattle.std.specs.Prelude.{◌≡◌, ℕ, ◌<◌, ◌≤◌, ◌==◌, nat_eq, nat_lt, Bool, true, false, not, ◌&&◌, List, [], ◌∷◌, length, flat_map, Option, Some, None, option_map, option_and_then}
 use Rattle.std.specs.List.{list_all, list_any, slice_get, IsDistinct}
 use Rattle.data_types.specs.declared.kind.FieldKind.{FieldKind}
 use Rattle.values.specs.declared.value.Value.{Value}
@@ -14,6 +14,9 @@ use Rattle.table_schema.specs.declared.query.Agg.{Agg}
 use Rattle.table_schema.specs.declared.query.BoundQuery.{BoundQuery}
 use Rattle.table_schema.specs.declared.query.Conjunct.{Conjunct}
 use Rattle.table_schema.specs.declared.query.Conjunct.TheVariants.{One, Many}
+use Rattle.table_schema.specs.declared.query.Having.{Having}
+use Rattle.table_schema.specs.declared.query.Having.TheOpen.{Having-F}
+use Rattle.table_schema.specs.declared.query.Having.TheFolds.{fold-Having}
 use Rattle.table_schema.specs.declared.query.Item.{Item}
 use Rattle.table_schema.specs.declared.query.Item.TheVariants as item
 use Rattle.table_schema.specs.declared.query.Wide.{Wide}
@@ -97,6 +100,36 @@ abbrev pub is_item : BoundQuery → Item → Bool
 is_item q (item.Group place) = nat_lt place (length q.groups)
 is_item q (item.Agg place) = nat_lt place (length q.aggs)
 
+-- ---- conditions on a group
+
+-- one condition, with whether each test of each inner one passes
+abbrev pub having_step : (ℕ → Value → Bool) → (ℕ → Bool) → Having-F Bool → Bool
+having_step column agg (Having-F.Group place op value) = column place value
+having_step column agg (Having-F.Agg place op number) = agg place
+having_step column agg (Having-F.All inner) = all_true inner
+having_step column agg (Having-F.Any inner) = all_true inner
+having_step column agg (Having-F.Not inner) = inner
+
+-- whether each test of a group column passes, by its place and its value, and each of an aggregate
+abbrev pub each_test : (ℕ → Value → Bool) → (ℕ → Bool) → Having → Bool
+each_test column agg = fold-Having Bool (having_step column agg)
+
+-- each place is one among the group columns, or among the aggregates
+abbrev pub having_places : List ℕ → List Agg → Having → Bool
+having_places groups aggs = each_test
+    (λ place value. nat_lt place (length groups)) (λ place. nat_lt place (length aggs))
+
+-- each value has the type of its group column
+abbrev pub having_fits : List Field → List ℕ → Having → Bool
+having_fits fields groups = each_test
+    (λ place value. is_typed (option_and_then (kind_at fields) (slice_get groups place)) value)
+    (λ place. true)
+
+-- what is asked of groups passes, where anything is
+abbrev pub if_asked : (Having → Bool) → Option Having → Bool
+if_asked test None = true
+if_asked test (Some having) = test having
+
 -- ---- the query
 
 -- a bound query over a table: all it names is there, once, within the limits and of the right type
@@ -117,3 +150,6 @@ pub record IsValidQuery (table : Table) (q : BoundQuery) : Type 0 where
   pub label_each : length q.labels ≡ length q.items
   pub keys_known : list_all (λ k. is_item q k.item) q.order ≡ true
   pub few_keys : length q.order ≤ 16
+  pub having_grouped : if_asked (λ having. nat_lt 0 (length q.groups)) q.having ≡ true
+  pub having_known : if_asked (having_places q.groups q.aggs) q.having ≡ true
+  pub having_typed : if_asked (having_fits table.schema.fields q.groups) q.having ≡ true

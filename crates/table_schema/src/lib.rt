@@ -13,6 +13,6 @@ pub use field::{Field, Role, Schema};
 pub use fields::Fields;
 pub use limits::most_rows;
 pub use names::is_column_name;
-pub use query::{Agg, BoundQuery, Conjunct, Item, OrderKey, Wide};
+pub use query::{Agg, BoundQuery, Conjunct, Having, Item, OrderKey, Wide};
 pub use settings::{Pair, Settings, TreeSetting};
 pub use table::Table;

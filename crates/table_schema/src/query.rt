@@ -1,8 +1,8 @@
 //! A query in which names are resolved to numbers of fields.
 
 use agg_laws::AggKind;
-use data_types::{Name, Seq};
-use values::Test;
+use data_types::{Boxed, Name, Seq};
+use values::{CompareOp, Test, Value};
 
 /// A condition on a row: a test of the value of one field, or all or any of some conditions.
 #[derive(Debug, Drop)]
@@ -43,6 +43,17 @@ pub struct OrderKey {
     pub descending: bool,
 }
 
+/// A condition on a group: a test of a group column or of an aggregate, by its place among them, or
+/// conditions that are joined.
+#[derive(Drop)]
+pub enum Having {
+    Group(u16, CompareOp, Value),
+    Agg(u16, CompareOp, i64),
+    All(Seq<Having>),
+    Any(Seq<Having>),
+    Not(Boxed<Having>),
+}
+
 /// A query over the fields of one table.
 #[derive(Drop)]
 pub struct BoundQuery {
@@ -60,4 +71,6 @@ pub struct BoundQuery {
     pub order: Seq<OrderKey>,
     pub offset: u64,
     pub limit: u64,
+    /// Which groups are answered; each where it is `None`.
+    pub having: Option<Having>,
 }

@@ -10,7 +10,7 @@ use query_parser::parse;
 use schema_json::read_schema;
 use settings_json::read_settings;
 use std::alloc::Global;
-use table_schema::{Agg, BoundQuery, Conjunct, Item, Table, Wide};
+use table_schema::{Agg, BoundQuery, Conjunct, Having, Item, Table, Wide};
 use values::{Test, Value};
 
 /// The texts of a table.
@@ -243,11 +243,46 @@ fn show_order(query: &BoundQuery, out: &Text) {
     }
 }
 
+fn show_asked(having: &Having, out: &Text) {
+    match having {
+        Having::Group(place, op, value) => {
+            show_item(Item::Group(*place), out);
+            out.add(op_word(*op));
+            show_value(value, out);
+        }
+        Having::Agg(place, op, number) => {
+            show_item(Item::Agg(*place), out);
+            out.add(op_word(*op));
+            show_value(&Value::Whole(*number), out);
+        }
+        Having::Not(inner) => {
+            out.add(" not");
+            show_asked(inner.get(), out);
+        }
+        Having::All(inner) | Having::Any(inner) => {
+            let word = if let Having::All(_) = having {
+                " all("
+            } else {
+                " any("
+            };
+            out.add(word);
+            for having in inner.as_slice() {
+                show_asked(having, out);
+            }
+            out.add(")");
+        }
+    }
+}
+
 fn show_query(query: &BoundQuery, out: &Text) {
     show_labels(query, out);
     show_items(query, out);
     show_groups(query, out);
     show_aggs(query, out);
+    if let Some(having) = &query.having {
+        out.add(" having");
+        show_asked(having, out);
+    }
     show_order(query, out);
     out.add(" ");
     show_conjuncts(query, out);

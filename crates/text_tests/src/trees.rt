@@ -1,7 +1,7 @@
 //! The syntax tree of a query on one line, with the byte of each token.
 
 use crate::text::Text;
-use query_tokens::{Argument, Call, Cond, Func, LiteralAt, NameAt, Query, Term};
+use query_tokens::{Argument, Call, Cond, Func, HavingCond, LiteralAt, NameAt, Query, Term};
 use values::CompareOp;
 
 fn show_name(name: &NameAt, out: &Text) {
@@ -101,6 +101,35 @@ fn show_cond(cond: &Cond, out: &Text) {
     }
 }
 
+fn show_having(having: &HavingCond, out: &Text) {
+    match having {
+        HavingCond::Compare(term, op, literal) => {
+            show_term(term, out);
+            out.add(" ");
+            out.add(op_word(*op));
+            out.add(" ");
+            show_literal(literal, out);
+        }
+        HavingCond::Not(inner) => {
+            out.add("not ");
+            show_having(inner.get(), out);
+        }
+        HavingCond::All(members) | HavingCond::Any(members) => {
+            let word = if let HavingCond::All(_) = having {
+                "all("
+            } else {
+                "any("
+            };
+            out.add(word);
+            for member in members.as_slice() {
+                show_having(member, out);
+                out.add(";");
+            }
+            out.add(")");
+        }
+    }
+}
+
 fn show_items(query: &Query, out: &Text) {
     for item in query.items.as_slice() {
         out.add(" ");
@@ -149,6 +178,10 @@ pub fn show_query(query: &Query, out: &Text) {
         show_cond(condition, out);
     }
     show_groups(query, out);
+    if let Some(having) = &query.having {
+        out.add(" having ");
+        show_having(having, out);
+    }
     show_order(query, out);
     show_limit(" limit ", &query.limit, out);
     show_limit(" offset ", &query.offset, out);

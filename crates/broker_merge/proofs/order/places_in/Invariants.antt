@@ -1,5 +1,5 @@
-use Rattle.std.proofs.Common.{◌≡◌, map, take}
+use Rattle.std.proofs.Common.{◌≡◌, map, slice_index, take}
 use Rattle.broker_merge.proofs.order.places_in.Given as goal
 
-abbrev pub invariant-loop-at : goal.invariant-loop-at
-invariant-loop-at l = l.places.items ≡ map (λ r. r.1) (take l.at-index l.ranked)
+abbrev pub invariant-loop-number : goal.invariant-loop-number
+invariant-loop-number l = l.places.items ≡ map (λ r. slice_index l.kept r.1) (take l.number-index l.ranked)
