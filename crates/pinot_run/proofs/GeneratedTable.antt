@@ -40,7 +40,7 @@ use Rattle.query_tokens.specs.declared.tree.Query.{Query}
 use Rattle.query_parser.specs.Cond.{one_of, between, predicate, conjunction, cond as any_cond, factor, condition}
 use Rattle.query_parser.specs.Operators.{operator}
 use Rattle.query_parser.specs.Reading.{reason_of, refusal, sees, after, expect, name, literal, separated_from}
-use Rattle.query_parser.specs.Query.{func_of, argument_of, term_of, label, item, direction, key, set_option, option_value, option, options_from, count, groups, order, condition_if, limits, ending, closing, query, parsed}
+use Rattle.query_parser.specs.Query.{func_of, argument_of, term_of, label, item, direction, key, set_option, option_value, option, options_from, count, groups, order, condition_if, having_if, limits, ending, closing, query, parsed}
 use Rattle.query_bind.specs.Bound.{Bound, answer, bound_of, in_normal_form, query_finding}
 use Rattle.query_bind.specs.Conjuncts.{conjunct, conjunct_by, conjuncts, only_field, where_conjuncts}
 use Rattle.query_bind.specs.Faults.{Finding}
@@ -101,7 +101,7 @@ four_fields = refl
 
 abbrev read_in : Result Query QueryFault → Query
 read_in (Ok query) = query
-read_in (Err wrong) = record { use_tree = false; select = 0; items = []; table = record { name = []; offset = 0 }; condition = None; groups = []; order = []; limit = None; offset = None }
+read_in (Err wrong) = record { use_tree = false; select = 0; items = []; table = record { name = []; offset = 0 }; condition = None; groups = []; having = None; order = []; limit = None; offset = None }
 
 abbrev read_query : List ℕ → Query
 read_query sql = read_in (parsed sql)
@@ -160,11 +160,11 @@ filter_is sql at there is =
     ∙ ap (λ field. One field (test.Compare Less (Whole (pos 10))) ∷ []) c_is
 
 scan_condition : (read_query scan_query).condition ≡ Some (cond.Compare (column_c 67) Less (ten 71))
-unfolding scan_query tree_query lexemes same_kind is_last keyword word number quoted in_quotes token value next_kind next_place next_number next_word next_tokens one_of between predicate conjunction any_cond factor condition operator reason_of refusal sees after expect name literal separated_from func_of argument_of term_of label item direction key set_option option_value option options_from count groups order condition_if limits ending closing query parsed
+unfolding scan_query tree_query lexemes same_kind is_last keyword word number quoted in_quotes token value next_kind next_place next_number next_word next_tokens one_of between predicate conjunction any_cond factor condition operator reason_of refusal sees after expect name literal separated_from func_of argument_of term_of label item direction key set_option option_value option options_from count groups order condition_if having_if limits ending closing query parsed
 scan_condition = refl
 
 tree_condition : (read_query tree_query).condition ≡ Some (cond.Compare (column_c 42) Less (ten 46))
-unfolding scan_query tree_query lexemes same_kind is_last keyword word number quoted in_quotes token value next_kind next_place next_number next_word next_tokens one_of between predicate conjunction any_cond factor condition operator reason_of refusal sees after expect name literal separated_from func_of argument_of term_of label item direction key set_option option_value option options_from count groups order condition_if limits ending closing query parsed
+unfolding scan_query tree_query lexemes same_kind is_last keyword word number quoted in_quotes token value next_kind next_place next_number next_word next_tokens one_of between predicate conjunction any_cond factor condition operator reason_of refusal sees after expect name literal separated_from func_of argument_of term_of label item direction key set_option option_value option options_from count groups order condition_if having_if limits ending closing query parsed
 tree_condition = refl
 
 pub scan_filter : (own_query scan_query).conjuncts ≡ own_filter
@@ -176,11 +176,11 @@ tree_filter = filter_is tree_query 42 46 tree_condition
 -- ---- no star-tree answers the one, and the first the other
 
 pub scan_picks : picked (own_query scan_query) own.settings.trees ≡ None
-unfolding generated_schema generated_settings is_utf8 chars encode json_value items members lex punctuate content json_word after_number number_of scan_numeral scan_query tree_query lexemes same_kind is_last keyword word number quoted in_quotes token value next_kind next_place next_number next_word next_tokens one_of between predicate conjunction any_cond factor condition operator reason_of refusal sees after expect name literal separated_from func_of argument_of term_of label item direction key set_option option_value option options_from count groups order condition_if limits ending closing query parsed
+unfolding generated_schema generated_settings is_utf8 chars encode json_value items members lex punctuate content json_word after_number number_of scan_numeral scan_query tree_query lexemes same_kind is_last keyword word number quoted in_quotes token value next_kind next_place next_number next_word next_tokens one_of between predicate conjunction any_cond factor condition operator reason_of refusal sees after expect name literal separated_from func_of argument_of term_of label item direction key set_option option_value option options_from count groups order condition_if having_if limits ending closing query parsed
 scan_picks = refl
 
 tree_picks_so : picked (record (own_query tree_query) { conjuncts = own_filter }) own.settings.trees ≡ Some 0
-unfolding generated_schema generated_settings is_utf8 chars encode json_value items members lex punctuate content json_word after_number number_of scan_numeral scan_query tree_query lexemes same_kind is_last keyword word number quoted in_quotes token value next_kind next_place next_number next_word next_tokens one_of between predicate conjunction any_cond factor condition operator reason_of refusal sees after expect name literal separated_from func_of argument_of term_of label item direction key set_option option_value option options_from count groups order condition_if limits ending closing query parsed
+unfolding generated_schema generated_settings is_utf8 chars encode json_value items members lex punctuate content json_word after_number number_of scan_numeral scan_query tree_query lexemes same_kind is_last keyword word number quoted in_quotes token value next_kind next_place next_number next_word next_tokens one_of between predicate conjunction any_cond factor condition operator reason_of refusal sees after expect name literal separated_from func_of argument_of term_of label item direction key set_option option_value option options_from count groups order condition_if having_if limits ending closing query parsed
 tree_picks_so = refl
 
 pub tree_picks : picked (own_query tree_query) own.settings.trees ≡ Some 0
