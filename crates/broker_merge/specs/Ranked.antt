@@ -17,8 +17,8 @@ pub record AreRanked (places : List Placed) (width count : ℕ)
   pub all : map (λ r. r.1) ranked ≡ range_with_len 0 count
 
 -- places of a table that begin with those of the first so many of some groups, in their order
-pub record BeginInOrder (table : KeptGroups) (groups : List Group) (order : List OrderKey) (most : ℕ)
-    (places : List ℕ) : Type 0 where
+pub record BeginInOrder (table : KeptGroups) (groups : List Group) (order : List OrderKey)
+    (most : ℕ) (places : List ℕ) : Type 0 where
   pub below : All (λ at. at < length table.groups) places
   pub begins : take most (map (group_at table) places) ≡ take most (in_order order groups)
 

@@ -36,8 +36,8 @@ keys_finding others kept (k ∷ ks) = or_else
     || nat_lt 16 (length (with_agg kept k.term.meaning))) TooMany k.term.offset)
     (keys_finding (others + 1) (with_agg kept k.term.meaning) ks)
 
--- the first fault of the aggregates of the select list, of GROUP BY, of the aggregates of HAVING and
--- of ORDER BY, in this order
+-- the first fault of the aggregates of the select list, of GROUP BY, of the aggregates of HAVING
+-- and of ORDER BY, in this order
 abbrev pub limits_finding : Terms → Finding
 limits_finding terms = first_of (
     aggs_finding [] terms.items

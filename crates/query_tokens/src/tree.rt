@@ -61,8 +61,8 @@ pub enum Term {
     Call(Call),
 }
 
-/// A condition on a group. `All` and `Any` hold the two or more members of one AND or OR as written;
-/// parentheses leave no trace but their grouping.
+/// A condition on a group. `All` and `Any` hold the two or more members of one AND or OR as
+/// written; parentheses leave no trace but their grouping.
 #[derive(Drop)]
 pub enum HavingCond {
     Compare(Term, CompareOp, LiteralAt),
