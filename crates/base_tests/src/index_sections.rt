@@ -4,7 +4,7 @@ ghost use Rattle.std.specs.Prelude.{◌≡◌, ◌<◌, [], ◌∷◌, All, IfOk
 
 use crate::expect::Expectations;
 use crate::fixtures::{name, shelf_of};
-use doc_lists::DocList;
+use doc_lists::{DocList, DocSet};
 use index_reader::{ListFault, ListKind, docs_between, docs_of_ids};
 use memory_devices::MemoryShelf;
 use outside::{NoMemory, Place};
@@ -98,6 +98,16 @@ fn is_list(docs: &DocList, wanted: &[u32]) -> bool {
     docs.len() == wanted.len()
 }
 
+// Whether a set has just these documents.
+fn is_set(alloc: Global, docs: DocSet, wanted: &[u32]) -> bool {
+    let Ok(list) = docs.into_list(alloc) else {
+        return false;
+    };
+    let is_so = is_list(&list, wanted);
+    drop(list);
+    is_so
+}
+
 fn reads_between(alloc: Global, shelf: &mut MemoryShelf, row: &Between) -> bool {
     let (low, high, sure, check) = *row;
     if low > high || high >= COUNT {
@@ -106,17 +116,22 @@ fn reads_between(alloc: Global, shelf: &mut MemoryShelf, row: &Between) -> bool 
     let place = place(alloc, "f", RANGED.len());
     let found = docs_between(alloc, shelf, &place, COUNT, ROWS, low, high);
     drop(place);
-    let are_these = are_lists(&found, sure, check);
-    drop(found);
-    are_these
+    are_sets(alloc, found, sure, check)
 }
 
 // Whether these are the documents that are found for sure, and those to be checked.
-fn are_lists(found: &Result<(DocList, DocList), ListFault>, sure: &[u32], check: &[u32]) -> bool {
-    match found {
-        Ok(docs) => is_list(&docs.0, sure) && is_list(&docs.1, check),
-        Err(_) => false,
-    }
+fn are_sets(
+    alloc: Global,
+    found: Result<(DocSet, DocSet), ListFault>,
+    sure: &[u32],
+    check: &[u32],
+) -> bool {
+    let Ok((found_sure, found_check)) = found else {
+        return false;
+    };
+    let is_sure = is_set(alloc, found_sure, sure);
+    let is_check = is_set(alloc, found_check, check);
+    is_sure && is_check
 }
 
 fn expect_between(alloc: Global, shelf: &mut MemoryShelf, all: &Expectations) {
@@ -185,14 +200,8 @@ fn reads_set(
 {
     let (kind, place) = section;
     let found = docs_of_ids(alloc, shelf, place, kind, 4, ROWS, set);
-    let is_so = is_found(&found, wanted);
-    drop(found);
-    is_so
-}
-
-fn is_found(found: &Result<DocList, ListFault>, wanted: &[u32]) -> bool {
     match found {
-        Ok(docs) => is_list(docs, wanted),
+        Ok(docs) => is_set(alloc, docs, wanted),
         Err(_) => false,
     }
 }

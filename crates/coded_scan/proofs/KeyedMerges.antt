@@ -54,7 +54,7 @@ module _ (segment : SegmentColumns) (groups : List ℕ) (aggs : List Agg) (keys 
             let j_in : j < length places = omega (arith, j_lt, many) in
             ap (key_of groups) (get_or-map (row_of columns) places j 0 (row_of columns 0) j_in)
             ∙ (h.firsts k lt).same some j j_in e ∙ sym is);
-        some = λ any.
+        some =
             let has = (h.firsts k lt).has some in
             omega (arith, has, ap length (in_slot-map (row_of columns) k keys places), length-map (in_slot k keys places) (row_of columns));
       }

@@ -1,16 +1,14 @@
 -- The rows of one key after another, added to groups.
 use Rattle.std.proofs.Common.{◌≡◌, ◌∙◌, ◌<◌, ◌≤◌, ◌+◌, ◌-◌, ◌++◌, [], ℕ, List, length, get_or, sym, subst, arith, append_assoc}
 use Rattle.std.proofs.lemmas.List.{length-append}
-use Rattle.std.proofs.lemmas.List.Sorted.{IsPermutation-append_left, IsPermutation-append_right, IsPermutation-trans, length_permutation}
+use Rattle.std.proofs.lemmas.List.Sorted.{IsPermutation-append_left, IsPermutation-sym, IsPermutation-trans, length_permutation}
 use Rattle.std.specs.List.Sorted.{IsPermutation}
-use Rattle.std.specs.FinMap as finite
 use Rattle.values.specs.declared.value.Value.{Value}
 use Rattle.agg_laws.specs.Numbers.{most_values}
 use Rattle.table_schema.specs.declared.query.BoundQuery.{BoundQuery}
-use Rattle.group_table.specs.Groups.{Groups}
 use Rattle.group_table.specs.Kept.{KeptGroups, groups_in}
 use Rattle.group_table.specs.Shape.{shape_of}
-use Rattle.group_table.proofs.GroupsLemmas.{same_permuted}
+use Rattle.group_table.proofs.GroupsLemmas.{permuted_adds}
 use Rattle.scan_engine.specs.Scanned.{AddsRows, HaveAtMost, IsOverfull}
 use Rattle.scan_engine.proofs.AddLemmas.{adds_both, at_most_more, overfull_later}
 use Rattle.coded_columns.specs.Slots.{before_slot, from_slot, in_slot}
@@ -21,13 +19,13 @@ pub adds-permuted : (query : BoundQuery) (count : ℕ) (xs ys : List (List Value
 adds-permuted query count xs ys old new p a = record {
   of_query = a.of_query;
   most = a.most;
-  groups = λ done so. a.groups done so ∙ sym (same_permuted (shape_of query) (done ++ xs) (done ++ ys) (IsPermutation-append_right done xs ys p));
+  groups = permuted_adds (shape_of query) xs ys (groups_in old) (groups_in new) p a.groups;
   fits = a.fits;
 }
 
 pub overfull-permuted : (query : BoundQuery) (xs ys : List (List Value)) (table : KeptGroups) → IsPermutation xs ys → IsOverfull query xs table → IsOverfull query ys table
-overfull-permuted query xs ys table p over done so =
-    subst (λ (g : Groups). table.most < finite.len g) (sym (same_permuted (shape_of query) (done ++ xs) (done ++ ys) (IsPermutation-append_right done xs ys p))) (over done so)
+overfull-permuted query xs ys table p over new adds =
+    over new (permuted_adds (shape_of query) ys xs (groups_in table) new (IsPermutation-sym xs ys p) adds)
 
 module _ (query : BoundQuery) (slots : List ℕ) (rows : List (List Value)) where
   -- how many rows there are before the next slot

@@ -16,7 +16,7 @@ use Rattle.values.specs.Printed.{text_of}
 use Rattle.values.specs.declared.value.Value.{Value}
 use Rattle.values.specs.declared.value.Value.TheVariants.{Whole}
 use Rattle.csv_text.specs.Cells.{AreCells, HasCells, IsPut, cell_text, cell_texts, joined}
-use Rattle.csv_text.specs.Coded.{HasRow, IsCodedColumn, ids_of, listed, values_of}
+use Rattle.csv_text.specs.Coded.{HasRow, IsCodedColumn, listed, values_of}
 use Rattle.csv_text.specs.Rows.{end_of, records_text}
 use Rattle.csv_text.specs.declared.cells.Cells.{Cells}
 use Rattle.csv_text.specs.declared.coded.CodedColumn.{CodedColumn}
@@ -179,15 +179,15 @@ abbrev pub written : ℕ → CodedColumn → List ℕ
 written row column = text_of (get_or (listed column).values row (Whole (pos 0)))
 
 -- the value's own cell
-pub cell_placed : (at width row : ℕ) (column : CodedColumn) → HasRow row column → get_or (ids_of column.ids) row 0 < length (cell_texts at width (values_of column))
+pub cell_placed : (at width row : ℕ) (column : CodedColumn) → HasRow row column → get_or column.ids row 0 < length (cell_texts at width (values_of column))
 cell_placed at width row column has =
-    let lt : get_or (ids_of column.ids) row 0 < length (values_of column) = All-get_or (λ id. id < length (values_of column)) (ids_of column.ids) row 0 has.within has.below in
+    let lt : get_or column.ids row 0 < length (values_of column) = All-get_or (λ id. id < length (values_of column)) column.ids row 0 has.within has.below in
     omega (arith, lt, length-map (values_of column) (λ v. cell_text at width (text_of v)))
 
-pub cell_got : (at width row : ℕ) (column : CodedColumn) → HasRow row column → get_or (cell_texts at width (values_of column)) (get_or (ids_of column.ids) row 0) [] ≡ cell_text at width (written row column)
+pub cell_got : (at width row : ℕ) (column : CodedColumn) → HasRow row column → get_or (cell_texts at width (values_of column)) (get_or column.ids row 0) [] ≡ cell_text at width (written row column)
 cell_got at width row column has =
     let values : List Value = values_of column in
-    let ids : List ℕ = ids_of column.ids in
+    let ids : List ℕ = column.ids in
     let lt : get_or ids row 0 < length values = All-get_or (λ id. id < length values) ids row 0 has.within has.below in
     get_or-map (λ v. cell_text at width (text_of v)) values (get_or ids row 0) (Whole (pos 0)) [] lt
     ∙ ap (λ v. cell_text at width (text_of v)) (sym (get_or-map (λ id. get_or values id (Whole (pos 0))) ids row 0 (Whole (pos 0)) has.within))
@@ -244,7 +244,7 @@ row_last row columns k column old mid new cell at m end last is first same secon
 pub counts_of : (rows : ℕ) (columns : List CodedColumn) → All (IsCodedColumn rows) columns → All (Counts rows) (map listed columns)
 counts_of rows columns coded =
     All-map (Counts rows) listed columns
-    (All-weaker (IsCodedColumn rows) (λ c. Counts rows (listed c)) (λ c is. length-map (ids_of c.ids) (λ id. get_or (values_of c) id (Whole (pos 0))) ∙ is.count) columns coded)
+    (All-weaker (IsCodedColumn rows) (λ c. Counts rows (listed c)) (λ c is. length-map c.ids (λ id. get_or (values_of c) id (Whole (pos 0))) ∙ is.count) columns coded)
 
 -- one more record
 pub records_step : (rows : List (List Value)) (at : ℕ) (row : List Value) → slice_get rows at ≡ Some row → records_text (take (at + 1) rows) ≡ records_text (take at rows) ++ row_text default_writer (map text_of row)

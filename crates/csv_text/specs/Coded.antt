@@ -4,33 +4,26 @@ use Rattle.values.specs.Columns.{Listed, ListedColumns}
 use Rattle.values.specs.declared.value.Value.{Value}
 use Rattle.value_ids.specs.Coding.{AreBelow, values_at}
 use Rattle.csv_text.specs.declared.coded.CodedColumn.{CodedColumn}
-use Rattle.csv_text.specs.declared.coded.RowIds.{RowIds}
-use Rattle.csv_text.specs.declared.coded.RowIds.TheVariants.{Narrow, Wide}
 
 -- the values by their places
 abbrev pub values_of : CodedColumn → List Value
 values_of column = column.dictionary.now.values
 
--- the place of each row's value
-abbrev pub ids_of : RowIds → List ℕ
-ids_of (Narrow ids) = ids.items
-ids_of (Wide ids) = ids.items
-
 -- there is a place for each of so many rows, and a value at it
 pub record IsCodedColumn (rows : ℕ) (column : CodedColumn) : Type 0 where
-  pub count : length (ids_of column.ids) ≡ rows
-  pub below : AreBelow (length (values_of column)) (ids_of column.ids)
+  pub count : length column.ids ≡ rows
+  pub below : AreBelow (length (values_of column)) column.ids
 
 -- there is a place for this row, and a value at each place
 pub record HasRow (row : ℕ) (column : CodedColumn) : Type 0 where
-  pub within : row < length (ids_of column.ids)
-  pub below : AreBelow (length (values_of column)) (ids_of column.ids)
+  pub within : row < length column.ids
+  pub below : AreBelow (length (values_of column)) column.ids
 
 -- the values of the rows
 abbrev pub listed : CodedColumn → Listed
 listed column = record {
   are_texts = false;
-  values = values_at (values_of column) (ids_of column.ids);
+  values = values_at (values_of column) column.ids;
 }
 
 -- so many rows in these columns

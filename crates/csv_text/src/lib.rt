@@ -9,6 +9,6 @@ mod laws;
 mod putting;
 mod rows;
 
-pub use coded::{CodedColumn, RowIds};
+pub use coded::CodedColumn;
 pub use laws::reads_back_law;
 pub use rows::coded_text;

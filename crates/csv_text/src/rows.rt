@@ -16,6 +16,9 @@ use data_types::{Bytes, Seq};
 use std::alloc::{AllocError, Global};
 use table_schema::Field;
 
+// How long a row is likely to be is known of so many.
+const FIRST_ROWS: usize = 65_536;
+
 /// The text of so many rows in these columns: the names of the fields, and a record for each row.
 pub fn coded_text(
     alloc: Global,
@@ -63,9 +66,22 @@ fn put_rows(
 {
     let mut end = text.len();
     'rows: for row in 0..rows {
+        make_room(row, rows, text);
         end = put_row(columns, cells, row, text, end)?;
     }
     Ok(end)
+}
+
+// Makes room at once for all rows after the first ones, as long as these are, where it comes to
+// them. Where there is none, a text grows by and by.
+#[inline(always)]
+fn make_room(row: usize, rows: usize, text: &mut Vec<u8>)
+    ensures { text.new.items ≡ text.old.items }
+{
+    if row == FIRST_ROWS {
+        let each = text.len() / FIRST_ROWS + 1;
+        let _ = text.reserve(each.saturating_mul(rows));
+    }
 }
 
 // Puts the record of a row at the end of a text, and answers where it ends then.
@@ -87,7 +103,7 @@ fn put_row(
     let last = columns.len() - 1;
     let mut end = at;
     'cells: for k in 0..last {
-        end = put_cell(&cells[k], columns[k].ids.at(row), text, end)?;
+        end = put_cell(&cells[k], columns[k].ids.at(row) as usize, text, end)?;
     }
-    put_cell(&cells[last], columns[last].ids.at(row), text, end)
+    put_cell(&cells[last], columns[last].ids.at(row) as usize, text, end)
 }

@@ -73,7 +73,7 @@ runs_after old runs count size are after is =
 
 -- ---- a list is swept to the end of runs
 
-next_least : (next : ℕ) (runs : List Run) → Apart next runs → next ≤ next_from next runs
+pub next_least : (next : ℕ) (runs : List Run) → Apart next runs → next ≤ next_from next runs
 next_least next runs apart = let at_most = count_few next runs apart in omega (arith, at_most)
 
 docs_below : (from : ℕ) (runs : List Run) → Apart from runs → All (λ x. x < next_from from runs) (docs_of runs)

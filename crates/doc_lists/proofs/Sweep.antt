@@ -21,7 +21,7 @@ pub or_false : (b : Bool) → b || false ≡ b
 or_false true = refl
 or_false false = refl
 
-and_false : (b : Bool) → b && false ≡ false
+pub and_false : (b : Bool) → b && false ≡ false
 and_false true = refl
 and_false false = refl
 
@@ -29,15 +29,15 @@ range_first : (t : Bool) (a n doc : ℕ) → nat_eq doc a ≡ t → a ≤ doc �
 range_first true a n doc e from to rest = refl
 range_first false a n doc e from to rest = let apart = eqb-false doc a e in rest (omega (arith, apart, from))
 
-range_yes : (a n doc : ℕ) → a ≤ doc → doc < a + n → has_doc (range_with_len a n) doc ≡ true
+pub range_yes : (a n doc : ℕ) → a ≤ doc → doc < a + n → has_doc (range_with_len a n) doc ≡ true
 range_yes a zero doc from to = absurd (omega (arith, from, to))
 range_yes a (suc n) doc from to = range_first (nat_eq doc a) a n doc refl from to (λ more. range_yes (a + 1) n doc more (omega (arith, to)))
 
-range_below : (a n doc : ℕ) → doc < a → has_doc (range_with_len a n) doc ≡ false
+pub range_below : (a n doc : ℕ) → doc < a → has_doc (range_with_len a n) doc ≡ false
 range_below a zero doc lt = refl
 range_below a (suc n) doc lt = ap (λ t. t || has_doc (range_with_len (a + 1) n) doc) (ne_eqb doc a (λ e. omega (arith, e, lt))) ∙ range_below (a + 1) n doc (omega (arith, lt))
 
-range_above : (a n doc : ℕ) → a + n ≤ doc → has_doc (range_with_len a n) doc ≡ false
+pub range_above : (a n doc : ℕ) → a + n ≤ doc → has_doc (range_with_len a n) doc ≡ false
 range_above a zero doc le = refl
 range_above a (suc n) doc le = ap (λ t. t || has_doc (range_with_len (a + 1) n) doc) (ne_eqb doc a (λ e. omega (arith, e, le))) ∙ range_above (a + 1) n doc (omega (arith, le))
 
@@ -196,7 +196,7 @@ pub range_all : (a n to : ℕ) → a + n ≤ to → All (λ x. x < to) (range_wi
 range_all a zero to le = All-nil (λ x. x < to)
 range_all a (suc n) to le = All-cons (λ x. x < to) a (range_with_len (a + 1) n) (omega (arith, le)) (range_all (a + 1) n to (omega (arith, le)))
 
-up_to : (a n : ℕ) → Up a (range_with_len a n)
+pub up_to : (a n : ℕ) → Up a (range_with_len a n)
 up_to a zero = tt
 up_to a (suc n) = (omega arith, up_to (a + 1) n)
 

@@ -1,2 +1,4 @@
 pub mod Docs
+pub mod Kept
+pub mod Marks
 pub mod Sets

@@ -1,6 +1,6 @@
 -- The groups of some rows: those of one key, which is the values in the group columns, with the
 -- aggregates of their numbers.
-use Rattle.std.specs.Prelude.{◌≡◌, ℕ, ℤ, pos, Bool, List, [], ◌∷◌, map, filter}
+use Rattle.std.specs.Prelude.{◌≡◌, ℕ, ℤ, pos, Bool, List, [], ◌∷◌, map, filter, Option, Some, None}
 use Rattle.std.specs.List.{list_any}
 use Rattle.std.specs.Option.{option_map_or}
 use Rattle.std.specs.FinMap as finite
@@ -68,10 +68,19 @@ groups_of shape rows = finite.from_entries
     (map (λ key. (key, states_of shape.aggs (filter (has_key shape.groups key) rows)))
     (keys_of shape.groups rows))
 
--- the groups with more rows in them: at each key the states of both, where there are any
+-- the aggregates of some rows, if there are any
+abbrev pub some_states : List Agg → List (List Value) → Option (List AggState)
+some_states aggs [] = None
+some_states aggs (row ∷ rows) = Some (states_of aggs (row ∷ rows))
+
+-- the aggregates of the rows that have a key, if there are any
+abbrev pub states_for : Shape → List (List Value) → List Value → Option (List AggState)
+states_for shape rows key = some_states shape.aggs (filter (has_key shape.groups key) rows)
+
+-- any groups with more rows in them: at each key the states of both, where there are any
 pub record Adds (shape : Shape) (rows : List (List Value)) (old new : Groups) : Type 0 where
   pub each : (key : List Value) → finite.get new key
-      ≡ join_some merged_rows (finite.get old key) (finite.get (groups_of shape rows) key)
+      ≡ join_some merged_rows (finite.get old key) (states_for shape rows key)
 
 -- the states that a key has once these are merged with its own, where it has some
 abbrev pub with_states : Groups → List Value → List AggState → List AggState

@@ -18,16 +18,20 @@ pub fn groups_law()
         → groups_of shape ys ≡ groups_of shape xs }
 {}
 
-/// The groups of more rows are those before with the groups of the rows that came added, which are
-/// the only such groups; so groups over several lists compose. To add one row is to merge the
-/// aggregates of it into the group of its key.
+/// The groups of more rows are those before with the rows that came added. Rows can be added to any
+/// groups, in one way alone: one list after the other, and in any order. To add one row is to merge
+/// the aggregates of it into the group of its key.
 pub fn adds_law()
     ensures of_both { (shape : Shape) (xs ys : List (List Value))
         → Adds shape ys (groups_of shape xs) (groups_of shape (xs ++ ys)) }
+    ensures some { (shape : Shape) (rows : List (List Value)) (old : Groups)
+        → (new : Groups) × Adds shape rows old new }
     ensures one { (shape : Shape) (rows : List (List Value)) (old new other : Groups)
         → Adds shape rows old new → Adds shape rows old other → new ≡ other }
     ensures joined { (shape : Shape) (xs ys : List (List Value)) (old mid new : Groups)
         → Adds shape xs old mid → Adds shape ys mid new → Adds shape (xs ++ ys) old new }
+    ensures permuted { (shape : Shape) (xs ys : List (List Value)) (old new : Groups)
+        → IsPermutation xs ys → Adds shape xs old new → Adds shape ys old new }
     ensures from_none { (shape : Shape) (rows : List (List Value)) (new : Groups)
         → Adds shape rows (groups_of shape []) new → new ≡ groups_of shape rows }
     ensures of_row { (shape : Shape) (row : List Value) (old : Groups)

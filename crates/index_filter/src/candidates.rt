@@ -8,7 +8,7 @@ ghost use Rattle.outside.specs.Series.{LogsPartOf, LogsTo};
 ghost use Rattle.segment_plan.specs.RowsLeft.{indexed};
 
 use crate::index::{docs_by_range, in_both, of_list};
-use doc_lists::DocList;
+use doc_lists::DocSet;
 use index_reader::{ListKind, docs_of_ids};
 use outside::Shelf;
 use segment_file::Part;
@@ -28,8 +28,8 @@ pub fn documents<S: Shelf>(
     head: &Head,
     conjuncts: &[Conjunct],
     choices: &[IndexChoice],
-    unsure: &mut DocList,
-) -> Result<Option<DocList>, EngineFault>
+    unsure: &mut DocSet,
+) -> Result<Option<DocSet>, EngineFault>
     requires { HasReady head.now (OfEach (IsReady head.now) choices.now conjuncts.now) }
     ensures docs { IfOk result (Leaves (S.held shelf.old) head.now choices.now conjuncts.now
         (indexed choices.now conjuncts.now)) }
@@ -44,7 +44,7 @@ pub fn documents<S: Shelf>(
         (length conjuncts.now))
         (seen S.Shelf shelf.old) (seen S.Shelf shelf.new) }
 {
-    let mut docs: Option<DocList> = None;
+    let mut docs: Option<DocSet> = None;
     for at in 0..conjuncts.len() {
         let choice = choice_at(choices, at);
         let more = match docs_by(alloc, shelf, head, choice, &conjuncts[at], unsure) {
@@ -66,8 +66,8 @@ fn docs_by<S: Shelf>(
     head: &Head,
     choice: IndexChoice,
     conjunct: &Conjunct,
-    unsure: &mut DocList,
-) -> Result<Option<DocList>, EngineFault>
+    unsure: &mut DocSet,
+) -> Result<Option<DocSet>, EngineFault>
     requires { HasReady head.now (IsReady head.now choice conjunct.now) }
     ensures docs { IfOk result (LeavesBy (S.held shelf.old) head.now choice conjunct.now) }
     ensures unsure { IfOk result (λ _. AddsUnsure (S.held shelf.old) head.now choice conjunct.now
@@ -100,7 +100,7 @@ fn indexed<S: Shelf>(
     kind: ListKind,
     column: u16,
     test: &Test,
-) -> Result<Option<DocList>, EngineFault>
+) -> Result<Option<DocSet>, EngineFault>
     requires { HasReady head.now (IsIndexed head.now kind column) }
     ensures docs { IfOk result (IsFoundBy (S.held shelf.old) head.now kind column test.now) }
     ensures reads { ReadsIndexes result (λ part. (part ≡ part_of kind column)

@@ -9,7 +9,7 @@ ghost use Rattle.index_filter.specs.Calls.{HasReady, ReadsIndexes};
 ghost use Rattle.index_filter.specs.Faults.{list_fault};
 ghost use Rattle.index_filter.specs.Indexes.{AddsUnsure, AreEndsOf, AreInBoth, IsFoundNear, IsRanged, LogsRange, LogsRangePartly, TellsBuckets};
 
-use doc_lists::{DocList, join};
+use doc_lists::{DocSet, join};
 use index_reader::{ListFault, docs_between};
 use outside::Shelf;
 use segment_file::Part;
@@ -29,8 +29,8 @@ pub(crate) fn docs_by_range<S: Shelf>(
     head: &Head,
     column: u16,
     test: &Test,
-    unsure: &mut DocList,
-) -> Result<Option<DocList>, EngineFault>
+    unsure: &mut DocSet,
+) -> Result<Option<DocSet>, EngineFault>
     requires { HasReady head.now (IsRanged head.now column test.now) }
     ensures docs { IfOk result (IsFoundNear (S.held shelf.old) head.now column test.now) }
     ensures unsure { IfOk result (λ _. AddsUnsure (S.held shelf.old) head.now IndexChoice.Range
@@ -67,10 +67,10 @@ pub(crate) fn docs_by_range<S: Shelf>(
 // The documents that are sure and those to be checked, of which the latter are added to others.
 fn add_near(
     alloc: Global,
-    sure: &DocList,
-    check: &DocList,
-    unsure: &mut DocList,
-) -> Result<DocList, NoMemory>
+    sure: &DocSet,
+    check: &DocSet,
+    unsure: &mut DocSet,
+) -> Result<DocSet, NoMemory>
     ensures docs { IfOk result (AreThose (λ doc. has_doc sure.now doc || has_doc check.now doc)) }
     ensures unsure { IfOk result (λ _. AreThose
         (λ doc. has_doc unsure.old doc || has_doc check.now doc) unsure.new) }
@@ -104,9 +104,9 @@ pub(crate) fn of_list(fault: ListFault, part: Part) -> EngineFault
 /// The documents that are in both lists, or in the one that is there.
 pub(crate) fn in_both(
     alloc: Global,
-    first: Option<DocList>,
-    second: Option<DocList>,
-) -> Result<Option<DocList>, NoMemory>
+    first: Option<DocSet>,
+    second: Option<DocSet>,
+) -> Result<Option<DocSet>, NoMemory>
     ensures { IfOk result (AreInBoth first second) }
 {
     match (first, second) {

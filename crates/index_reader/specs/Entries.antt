@@ -1,6 +1,5 @@
 -- Parts of the entries of postings.
-use Rattle.std.specs.Prelude.{◌≡◌, ◌≤◌, ◌⊎◌, ℕ, Bool, ◌+◌, ◌-◌, ◌*◌, ◌/◌, ◌%◌, ◌||◌, nat_eq, false, List, [], ◌∷◌, Option, IfSome, length, take, drop, map, get_or}
-use Rattle.std.specs.Int.{bit_at}
+use Rattle.std.specs.Prelude.{◌≡◌, ◌≤◌, ◌⊎◌, ℕ, Bool, ◌+◌, ◌-◌, ◌*◌, List, [], ◌∷◌, Option, IfSome, length, take, drop, map, get_or}
 use Rattle.std.specs.List.{flat_map}
 use Rattle.outside.specs.Files.{Files}
 use Rattle.outside.specs.Reads.{Entry}
@@ -39,22 +38,6 @@ entries_of count keys part = take (part.last - part.first) (drop part.first (ent
 -- the entries of parts, one part after the other
 abbrev pub entries_in : ℕ → List ℕ → List Ends → List ℕ
 entries_in count keys parts = flat_map (entries_of count keys) parts
-
--- whether a bit of a word is set
-abbrev pub has_bit : ℕ → ℕ → Bool
-has_bit word place = nat_eq (bit_at word place) 1
-
--- whether a document is marked, by a bit of words of 64 bits
-abbrev pub is_marked : List ℕ → ℕ → Bool
-is_marked marks doc = has_bit (get_or marks (doc / 64) 0) (doc % 64)
-
--- no document from one on is marked
-abbrev pub MarkedBelow : ℕ → List ℕ → Type 0
-MarkedBelow rows marks = (doc : ℕ) → rows ≤ doc → is_marked marks doc ≡ false
-
--- the marks of documents after those of a list were set
-abbrev pub Marked : List ℕ → List ℕ → List ℕ → Type 0
-Marked docs old new = (doc : ℕ) → is_marked new doc ≡ is_marked old doc || has_doc docs doc
 
 -- where postings at an offset have the offsets of a run of keys, and where they have the entries of
 -- a part

@@ -11,7 +11,7 @@ use crate::inverted::inverted_docs;
 use crate::list_size::ListSize;
 use crate::sorted::sorted_docs;
 use crate::{ListFault, ListKind};
-use doc_lists::DocList;
+use doc_lists::DocSet;
 use outside::{Place, Shelf};
 use std::alloc::Global;
 use value_ids::IdSet;
@@ -27,7 +27,7 @@ pub fn docs_of_ids<S: Shelf>(
     count: u32,
     rows: u32,
     ids: &IdSet,
-) -> Result<DocList, ListFault>
+) -> Result<DocSet, ListFault>
     requires below { All (λ id. id < count) ids.now }
     requires at_most { count ≤ 1048576 }
     requires rows { rows ≤ 1048576 }
@@ -43,7 +43,10 @@ pub fn docs_of_ids<S: Shelf>(
 {
     let size = ListSize { count, rows };
     match kind {
-        ListKind::Sorted => sorted_docs(alloc, shelf, place, size, ids),
+        ListKind::Sorted => match sorted_docs(alloc, shelf, place, size, ids) {
+            Ok(list) => Ok(DocSet::of_list(list)),
+            Err(fault) => Err(fault),
+        },
         ListKind::Inverted => inverted_docs(alloc, shelf, place, size, ids),
     }
 }

@@ -9,7 +9,7 @@ use crate::ListFault;
 use crate::list_size::ListSize;
 use crate::postings::{docs_of_parts, read_parts};
 use crate::runs::runs_of;
-use doc_lists::DocList;
+use doc_lists::DocSet;
 use outside::{Place, Shelf};
 use std::alloc::Global;
 use value_ids::IdSet;
@@ -23,7 +23,7 @@ pub fn inverted_docs<S: Shelf>(
     place: &Place,
     size: ListSize,
     ids: &IdSet,
-) -> Result<DocList, ListFault>
+) -> Result<DocSet, ListFault>
     requires below { All (λ id. id < size.count) ids.now }
     ensures found { FindsDocs result (TellsInverted size.count size.rows) (is_doc_of ids.now)
         place.now size.rows (S.held shelf.old) }

@@ -13,7 +13,7 @@ use crate::ends::{Ends, read_ends};
 use crate::list_size::ListSize;
 use crate::marks::docs_of_entries;
 use crate::word_reading::read_words;
-use doc_lists::{DocList, Run};
+use doc_lists::{DocSet, Run};
 use outside::{Place, Shelf};
 use std::alloc::Global;
 
@@ -67,7 +67,7 @@ pub fn docs_of_parts<S: Shelf>(
     place: &Place,
     size: ListSize,
     parts: &[Ends],
-) -> Result<DocList, ListFault>
+) -> Result<DocSet, ListFault>
     requires rising { Rising 0 size.rows parts.now }
     ensures found { FindsDocs result (TellsPostings size.count size.rows)
         (λ keys. has_doc (entries_in size.count keys parts.now)) place.now size.rows
@@ -99,7 +99,7 @@ fn docs_of_part<S: Shelf>(
     place: &Place,
     size: ListSize,
     part: Ends,
-) -> Result<DocList, ListFault>
+) -> Result<DocSet, ListFault>
     requires order { part.first ≤ part.last }
     requires within { part.last ≤ size.rows }
     ensures found { FindsDocs result (TellsPostings size.count size.rows)

@@ -12,7 +12,7 @@ use crate::buckets::{buckets_of, overlap_of, read_bucket_parts};
 use crate::id_bounds::IdBounds;
 use crate::list_size::ListSize;
 use crate::postings::docs_of_parts;
-use doc_lists::DocList;
+use doc_lists::DocSet;
 use outside::{Place, Shelf};
 use std::alloc::Global;
 
@@ -29,7 +29,7 @@ pub fn docs_between<S: Shelf>(
     rows: u32,
     low: u32,
     high: u32,
-) -> Result<(DocList, DocList), ListFault>
+) -> Result<(DocSet, DocSet), ListFault>
     requires order { low ≤ high }
     requires below { high < count }
     requires at_most { count ≤ 1048576 }

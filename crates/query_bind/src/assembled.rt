@@ -45,9 +45,9 @@ pub(crate) fn assemble(
     requires at_most { (length lists.groups ≤ 8) × (length lists.aggs ≤ 16) }
     requires limit { limits.is_count query.now.limit ≡ true }
     requires offset { limits.is_count query.now.offset ≡ true }
-    ensures bound { IfOk result (λ bound.
-        bound ≡ spec.assembled fields.entry.all.now query.now terms.now lists
-        (where_conjuncts (where_written fields.entry.all.now query.now.condition))) }
+    ensures bound { IfOk result (λ bound. bound ≡ spec.assembled fields.entry.all.now query.now
+        terms.now lists (where_conjuncts (where_written fields.entry.all.now
+        query.now.condition))) }
     ensures rows { IfOk result (λ bound.
         KeepRows bound.conjuncts (where_written fields.entry.all.now query.now.condition)) }
 {

@@ -1,5 +1,5 @@
 -- A segment with a column that is left without a value adds nothing, and its plan says so.
-use Rattle.std.proofs.Common.{◌≡◌, ◌∙◌, ◌+◌, ◌==◌, ◌||◌, ◌++◌, inr, ℕ, false, cond, List, [], Option, Some, None, IfSome, refl, sym, ap, subst, arith, append-nil}
+use Rattle.std.proofs.Common.{◌≡◌, ◌∙◌, ◌+◌, ◌==◌, ◌||◌, inr, ℕ, false, cond, List, [], Option, Some, None, IfSome, refl, sym, ap, subst, arith}
 use Rattle.std.specs.List.{list_any}
 use Rattle.outside.specs.Files.{Files}
 use Rattle.values.specs.declared.value.Value.{Value}
@@ -8,7 +8,7 @@ use Rattle.table_schema.specs.declared.table.Table.{Table}
 use Rattle.table_schema.specs.ValidQuery.{IsValidQuery}
 use Rattle.table_schema.specs.ValidTable.{IsValidTable}
 use Rattle.group_table.specs.Kept.{IsTableOf, KeptGroups, groups_in}
-use Rattle.group_table.specs.Groups.{groups_of}
+use Rattle.group_table.proofs.GroupsLemmas.{none as no_rows}
 use Rattle.group_table.specs.Shape.{shape_of}
 use Rattle.scan_engine.proofs.AddLemmas.{at_most_more}
 use Rattle.eligibility.specs.Rule.{picked}
@@ -48,11 +48,11 @@ module _ (query : BoundQuery) (table : Table) (segment : Stored) (head : Seen) (
     where
       by : (h : Option Files) → IsEmptied query table h head → IsHeadIn table h segment head → IfSome h (λ files. (rows : List (List Value)) → HasImage table files segment rows → AddsGroups query (selected_in query table rows) groups groups)
       by None none is = tt
-      by (Some files) none is = λ rows has done same.
+      by (Some files) none is = λ rows has.
           let i = is rows has in
           let left = left_none files rows i none in
           let no_row : selected_in query table rows ≡ [] = none_selected query (ordered table.settings.sorted rows) (law query.conjuncts table (ordered table.settings.sorted rows) i.whole (whole_tells files rows i) left.loaded left.emptied) in
-          same ∙ ap (groups_of (shape_of query)) (sym (append-nil done)) ∙ ap (λ l. groups_of (shape_of query) (done ++ l)) (sym no_row)
+          subst (λ l. AddsGroups query l groups groups) (sym no_row) (no_rows (shape_of query) (groups_in groups))
 
   -- the plan of the rows is to look at none of them
   pub empty_done : PlanIsOver → IsValidQuery table query → (held : Option Files) (plan : SegmentPlan) (docs : ℕ) → plan ≡ Empty → docs ≡ 0 → is_pruned query head ≡ false → IsEmptied query table held head → IsHeadIn table held segment head → IsDoneIn query table held segment plan docs

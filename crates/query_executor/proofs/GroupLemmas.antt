@@ -1,6 +1,5 @@
 -- The groups of a query over the rows of segments, one segment after the other.
-use Rattle.std.proofs.Common.{◌≡◌, ◌∙◌, ◌+◌, ◌<◌, ◌++◌, ℕ, List, [], ◌∷◌, length, take, drop, get_or, Option, Some, None, IfSome, sym, ap, subst, arith, append-nil, append_assoc, add-one}
-use Rattle.std.specs.FinMap as finite
+use Rattle.std.proofs.Common.{◌≡◌, ◌∙◌, ◌+◌, ◌<◌, ◌++◌, ℕ, List, [], ◌∷◌, length, take, drop, get_or, Option, Some, None, IfSome, sym, ap, subst, arith, append-nil, add-one}
 use Rattle.std.specs.List.{flat_map}
 use Rattle.std.proofs.Math.Seq.{take-suc}
 use Rattle.std.proofs.lemmas.Grind.{flat_map-append}
@@ -12,11 +11,12 @@ use Rattle.values.specs.declared.value.Value.{Value}
 use Rattle.table_schema.specs.Conditions.{all_hold}
 use Rattle.table_schema.specs.declared.query.BoundQuery.{BoundQuery}
 use Rattle.table_schema.specs.declared.table.Table.{Table}
-use Rattle.group_table.specs.Groups.{groups_of}
-use Rattle.group_table.specs.Kept.{KeptGroups}
+use Rattle.group_table.specs.Groups.{Adds}
+use Rattle.group_table.specs.Kept.{KeptGroups, groups_in}
 use Rattle.group_table.specs.Shape.{shape_of}
-use Rattle.scan_engine.specs.Scanned.{selected}
-use Rattle.scan_engine.proofs.AddLemmas.{len_more}
+use Rattle.group_table.proofs.GroupsLemmas.{joined, none}
+use Rattle.scan_engine.specs.Scanned.{IsOverfull, selected}
+use Rattle.scan_engine.proofs.AddLemmas.{overfull_more, overfull_past}
 use Rattle.segment_file.specs.Ordered.{ordered}
 use Rattle.segment_head.specs.Stored.{HasImage, live, segment_at, stored_rows}
 use Rattle.query_executor.specs.Steps.{AddsFirst, AddsGroups, AddsStored, AreOverfull, IsStoredOverfull, selected_in}
@@ -50,7 +50,7 @@ module _ (query : BoundQuery) (table : Table) where
     -- of no segment nothing is added
     pub none_first : (held : Option Files) (groups : KeptGroups) → AddsFirst query table held stored 0 groups groups
     none_first None groups = tt
-    none_first (Some files) groups = λ segments all done same. same ∙ ap (groups_of (shape_of query)) (sym (append-nil done))
+    none_first (Some files) groups = λ segments all. none (shape_of query) (groups_in groups)
 
     pub one_more : (held : Option Files) (k : ℕ) (first old new : KeptGroups) → k < length stored → AddsFirst query table held stored k first old → AddsStored query table held (segment_at stored k) old new → AddsFirst query table held stored (k + 1) first new
     one_more held k first old new lt so a = by held so a.told
@@ -58,28 +58,26 @@ module _ (query : BoundQuery) (table : Table) where
         by : (h : Option Files) → AddsFirst query table h stored k first old → IfSome h (λ files. (rows : List (List Value)) → HasImage table files (segment_at stored k) rows → AddsGroups query (selected_in query table rows) old new)
             → AddsFirst query table h stored (k + 1) first new
         by None so told = tt
-        by (Some files) so told = λ segments all done same.
+        by (Some files) so told = λ segments all.
             let at_most : k < length segments = omega (arith, lt, AllZip-long (HasImage table files) stored segments all) in
             let adds = told (get_or segments k []) (zip_at (HasImage table files) stored segments k (live []) [] all lt) in
             let before : List (List Value) = selected query (stored_rows table (take k segments)) in
             let now : List (List Value) = selected_in query table (get_or segments k []) in
-            adds (done ++ before) (so segments all done same)
-            ∙ ap (groups_of (shape_of query)) (append_assoc done before now ∙ ap (λ l. done ++ l) (selected_more segments k at_most))
+            subst (λ l. Adds (shape_of query) l (groups_in first) (groups_in new)) (selected_more segments k at_most)
+            (joined (shape_of query) before now (groups_in first) (groups_in old) (groups_in new) (so segments all) adds)
 
     pub too_many : (held : Option Files) (k : ℕ) (first old : KeptGroups) → k < length stored → old.most ≡ first.most → AddsFirst query table held stored k first old → IsStoredOverfull query table held (segment_at stored k) old
         → AreOverfull query table held stored first
     too_many None k first old lt most so over = tt
-    too_many (Some files) k first old lt most so over = λ segments all done same.
+    too_many (Some files) k first old lt most so over = λ segments all.
         let at_most : k < length segments = omega (arith, lt, AllZip-long (HasImage table files) stored segments all) in
         let before : List (List Value) = selected query (stored_rows table (take k segments)) in
         let now : List (List Value) = selected_in query table (get_or segments k []) in
         let rest : List (List Value) = selected query (stored_rows table (drop (k + 1) segments)) in
-        let full : old.most < finite.len (groups_of (shape_of query) ((done ++ before) ++ now)) = over (get_or segments k []) (zip_at (HasImage table files) stored segments k (live []) [] all lt) (done ++ before) (so segments all done same) in
-        let more = len_more (shape_of query) ((done ++ before) ++ now) rest in
+        let full : IsOverfull query now old = over (get_or segments k []) (zip_at (HasImage table files) stored segments k (live []) [] all lt) in
         let rows : (before ++ now) ++ rest ≡ selected query (stored_rows table segments) =
         ap (λ l. l ++ rest) (selected_more segments k at_most)
         ∙ both_selected (stored_rows table (take (k + 1) segments)) (stored_rows table (drop (k + 1) segments))
         ∙ ap (selected query) (stored_rest segments (k + 1)) in
-        let all_rows : ((done ++ before) ++ now) ++ rest ≡ done ++ selected query (stored_rows table segments) =
-        ap (λ l. l ++ rest) (append_assoc done before now) ∙ append_assoc done (before ++ now) rest ∙ ap (λ l. done ++ l) rows in
-        subst (λ l. first.most < finite.len (groups_of (shape_of query) l)) all_rows (omega (arith, full, more, most))
+        subst (λ l. IsOverfull query l first) rows
+        (overfull_more query (before ++ now) rest first (overfull_past query before now first old (so segments all) most full))

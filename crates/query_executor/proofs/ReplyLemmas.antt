@@ -15,10 +15,12 @@ use Rattle.std.specs.FinMap as finite
 use Rattle.std.proofs.lemmas.Bool.{lt-ltb}
 use Rattle.std.proofs.lemmas.List.{take_all}
 use Rattle.std.proofs.lemmas.Slice.Zip.{AllZip-long}
-use Rattle.group_table.specs.Groups.{Groups, groups_of}
+use Rattle.group_table.specs.Groups.{Adds, Groups, groups_of}
 use Rattle.group_table.specs.Kept.{IsNew, KeptGroups, groups_in}
 use Rattle.group_table.specs.QueryPool.{Limits}
 use Rattle.group_table.specs.Shape.{Shape, shape_of}
+use Rattle.group_table.proofs.GroupsLemmas.{from_none}
+use Rattle.scan_engine.proofs.AddLemmas.{overfull_after}
 use Rattle.broker_merge.specs.Answer.{answer_of, answer_text}
 use Rattle.broker_merge.specs.Reply.{Reply, reply_over}
 use Rattle.scan_engine.specs.Scanned.{selected}
@@ -55,14 +57,16 @@ module _ (query : BoundQuery) (table : Table) (stored : List Stored) where
   all_answered None first groups text new so is = tt
   all_answered (Some files) first groups text new so is = λ segments all.
       let whole : take (length stored) segments ≡ segments = take_all (length stored) segments (omega (arith, AllZip-long (HasImage table files) stored segments all)) in
-      let groups_are : groups_in groups ≡ groups_of (shape_of query) (selected query (stored_rows table segments)) = so segments all [] new.groups_are ∙ ap (λ l. groups_of (shape_of query) (selected query (stored_rows table l))) whole in
+      let rows : List (List Value) = selected query (stored_rows table (take (length stored) segments)) in
+      let adds : Adds (shape_of query) rows (groups_of (shape_of query) []) (groups_in groups) = subst (λ (g : Groups). Adds (shape_of query) rows g (groups_in groups)) new.groups_are (so segments all) in
+      let groups_are : groups_in groups ≡ groups_of (shape_of query) (selected query (stored_rows table segments)) = from_none (shape_of query) rows (groups_in groups) adds ∙ ap (λ l. groups_of (shape_of query) (selected query (stored_rows table l))) whole in
       ap (λ g. replied (reply_over most_groups (shape_of query) g)) (sym groups_are) ∙ is
 
   pub too_many_refused : (held : Option Files) (first : KeptGroups) → IsNew query first.most first → Limits query most_groups first.most → AreOverfull query table held stored first → IfSome held (λ files. IsBoundReply table files stored query (Err (TooManyGroups most_groups)))
   too_many_refused None first new limits over = tt
   too_many_refused (Some files) first new limits over = λ segments all.
       let rows : List (List Value) = selected query (stored_rows table segments) in
-      let test : nat_lt 100000 (finite.len (groups_of (shape_of query) rows)) ≡ true = lt-ltb 100000 (finite.len (groups_of (shape_of query) rows)) (limits.same rows (over segments all [] new.groups_are)) in
+      let test : nat_lt 100000 (finite.len (groups_of (shape_of query) rows)) ≡ true = lt-ltb 100000 (finite.len (groups_of (shape_of query) rows)) (limits.same rows (overfull_after query [] rows first (over segments all) new.groups_are)) in
       ap replied (reply_by (shape_of query) (groups_of (shape_of query) rows) test)
     where
       reply_by : (shape : Shape) (groups : Groups) → nat_lt 100000 (finite.len groups) ≡ true → reply_over 100000 shape groups ≡ Reply.TooManyGroups

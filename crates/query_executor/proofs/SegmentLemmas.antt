@@ -1,5 +1,5 @@
 -- What a segment adds to the groups of a query.
-use Rattle.std.proofs.Common.{◌≡◌, ◌∙◌, ◌+◌, ◌-◌, ◌++◌, ℕ, List, [], Option, Some, None, IfSome, length, refl, sym, ap, arith, append-nil}
+use Rattle.std.proofs.Common.{◌≡◌, ◌+◌, ◌-◌, ℕ, List, [], Option, Some, None, IfSome, length, refl, sym, subst, arith}
 use Rattle.outside.specs.Files.{Files}
 use Rattle.values.specs.declared.value.Value.{Value}
 use Rattle.agg_laws.specs.Numbers.{most_values}
@@ -7,7 +7,7 @@ use Rattle.table_schema.specs.declared.query.BoundQuery.{BoundQuery}
 use Rattle.table_schema.specs.declared.table.Table.{Table}
 use Rattle.table_schema.specs.ValidTable.{IsValidTable}
 use Rattle.group_table.specs.Kept.{IsTableOf, KeptGroups, groups_in}
-use Rattle.group_table.specs.Groups.{groups_of}
+use Rattle.group_table.proofs.GroupsLemmas.{none as no_rows}
 use Rattle.group_table.specs.Shape.{shape_of}
 use Rattle.scan_engine.specs.Scanned.{AddsRows, HaveAtMost, IsOverfull, selected}
 use Rattle.scan_engine.proofs.AddLemmas.{at_most_more}
@@ -40,11 +40,11 @@ module _ (query : BoundQuery) (table : Table) (segment : Stored) (head : Seen) w
     where
       by : (h : Option Files) → IsHeadIn table h segment head → IfSome h (λ files. (rows : List (List Value)) → HasImage table files segment rows → AddsGroups query (selected_in query table rows) groups groups)
       by None is = tt
-      by (Some files) is = λ rows has done same.
+      by (Some files) is = λ rows has.
           let i = is rows has in
           let tells = law table i.name i.file rows i.whole head valid i.named i.can i.is_head i.part in
           let no_row : selected_in query table rows ≡ [] = none_selected query (ordered table.settings.sorted rows) (none (ordered table.settings.sorted rows) tells) in
-          same ∙ ap (groups_of (shape_of query)) (sym (append-nil done)) ∙ ap (λ l. groups_of (shape_of query) (done ++ l)) (sym no_row)
+          subst (λ l. AddsGroups query l groups groups) (sym no_row) (no_rows (shape_of query) (groups_in groups))
 
   -- the rows that satisfy the filter were added, whether by a scan or from a star-tree
   adds_by : (held : Option Files) (old new : KeptGroups) → IsHeadOf table head → IsTableOf query new → new.most ≡ old.most → ((n : ℕ) → HaveAtMost n (groups_in old) → HaveAtMost (n + head.rows) (groups_in new))

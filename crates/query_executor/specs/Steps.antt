@@ -5,7 +5,7 @@ use Rattle.outside.specs.Files.{Files}
 use Rattle.values.specs.declared.value.Value.{Value}
 use Rattle.table_schema.specs.declared.query.BoundQuery.{BoundQuery}
 use Rattle.table_schema.specs.declared.table.Table.{Table}
-use Rattle.group_table.specs.Groups.{groups_of}
+use Rattle.group_table.specs.Groups.{Adds}
 use Rattle.group_table.specs.Kept.{IsTableOf, KeptGroups, groups_in}
 use Rattle.group_table.specs.Shape.{shape_of}
 use Rattle.scan_engine.specs.Scanned.{HaveAtMost, IsOverfull, selected}
@@ -31,11 +31,9 @@ use Rattle.segment_opening.specs.Opened.{IsHeadIn}
 abbrev pub selected_in : BoundQuery → Table → List (List Value) → List (List Value)
 selected_in query table rows = selected query (ordered table.settings.sorted rows)
 
--- groups of some rows, with more rows in them, are those of all these rows
+-- the groups are those of before, whatever they were, with these rows in them
 abbrev pub AddsGroups : BoundQuery → List (List Value) → KeptGroups → KeptGroups → Type 0
-AddsGroups query rows old new =
-    (done : List (List Value)) → groups_in old ≡ groups_of (shape_of query) done
-    → groups_in new ≡ groups_of (shape_of query) (done ++ rows)
+AddsGroups query rows old new = Adds (shape_of query) rows (groups_in old) (groups_in new)
 
 -- the groups are still those of the query, and no aggregate is of more values than those of a
 -- segment more; where the segment's file is told to be the image of rows, those of them that

@@ -14,8 +14,9 @@ use query_tokens::{Cond, Kind, Query, QueryFault};
 use std::alloc::Global;
 
 /// The query of a text, or its first fault: `SET` options, then `SELECT .. FROM ..` with optional
-/// `WHERE`, `GROUP BY` with `HAVING`, `ORDER BY`, `LIMIT` and `OFFSET`, and an optional `;`. It is
-/// that of Apache Pinot. Names stand bare or in `"`, texts in `'`, each doubled within.
+/// `WHERE`, `GROUP BY` and `HAVING`, `ORDER BY`, `LIMIT` and `OFFSET`, and an optional `;`, after
+/// the query language of Apache Pinot. Names stand bare or in `"`, texts in `'`, each doubled
+/// within.
 ///
 /// Tokens are cut as they are reached, in time linear in the text, and none is kept.
 pub fn parse(alloc: Global, text: &str) -> Result<Query, QueryFault>

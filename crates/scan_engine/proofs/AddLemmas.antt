@@ -1,5 +1,5 @@
 -- The groups of rows, one more row at a time.
-use Rattle.std.proofs.Common.{◌≡◌, ◌∙◌, ℕ, zero, suc, ◌+◌, ◌-◌, ◌<◌, ◌≤◌, Bool, true, false, cond, List, [], ◌∷◌, ◌++◌, map, length, take, drop, get_or, slice_get, Option, Some, None, IfSome, refl, sym, ap, subst, arith, append_assoc, append-nil, is_some}
+use Rattle.std.proofs.Common.{◌≡◌, ◌∙◌, ℕ, zero, suc, ◌+◌, ◌-◌, ◌<◌, ◌≤◌, Bool, true, false, cond, List, [], ◌∷◌, ◌++◌, map, length, take, drop, get_or, slice_get, Option, Some, None, IfSome, refl, sym, ap, subst, arith, is_some}
 use Rattle.std.proofs.lemmas.Int.{ints}
 use Rattle.std.specs.Prelude.{ℤ}
 use Rattle.std.specs.Option.{option_map_or}
@@ -21,11 +21,11 @@ use Rattle.table_schema.specs.Conditions.{all_hold}
 use Rattle.table_schema.specs.declared.query.Agg.{Agg}
 use Rattle.table_schema.specs.declared.query.Conjunct.{Conjunct}
 use Rattle.table_schema.specs.declared.query.BoundQuery.{BoundQuery}
-use Rattle.group_table.specs.Groups.{Groups, groups_of, key_of, key_order, number_for, states_of, with_states, merged_in}
+use Rattle.group_table.specs.Groups.{Groups, groups_of, key_of, key_order, number_for, states_of, with_states, merged_in, Adds}
 use Rattle.group_table.specs.Kept.{KeptGroups, IsTableOf, IsNewKey, Merges, groups_in}
 use Rattle.group_table.specs.Shape.{Shape, shape_of}
 use Rattle.group_table.proofs.KeptLemmas.{key_total}
-use Rattle.group_table.proofs.GroupsLemmas.{of_both, of_row, one}
+use Rattle.group_table.proofs.GroupsLemmas.{joined, no_fewer, none, of_both, of_row, one, rest, some}
 use Rattle.scan_engine.specs.Scanned.{selected, marked, HaveAtMost, AddsRows, IsOverfull}
 
 -- ---- how many values the aggregates are of
@@ -82,28 +82,25 @@ pub row_states : (aggs : List Agg) (row : List Value) → row_of (map (λ agg. a
 row_states [] row = refl
 row_states (agg ∷ aggs) row = ap (λ l. states_of (agg ∷ []) (row ∷ []) ++ l) (row_states aggs row)
 
-row_added : (shape : Shape) (done : List (List Value)) (row : List Value)
-    → merged_in (groups_of shape done) (key_of shape.groups row) (states_of shape.aggs (row ∷ [])) ≡ groups_of shape (done ++ row ∷ [])
-row_added shape done row = one shape (row ∷ []) (groups_of shape done) _ _ (of_row shape row (groups_of shape done)) (of_both shape done (row ∷ []))
-
 -- ---- more rows, more groups
 
-len_insert : (b : Bool) (n : ℕ) → n ≤ cond b n (n + 1)
-len_insert true n = omega arith
-len_insert false n = omega arith
-
-len_row : (shape : Shape) (xs : List (List Value)) (row : List Value) → finite.len (groups_of shape xs) ≤ finite.len (groups_of shape (xs ++ row ∷ []))
-len_row shape xs row = subst (λ (g : Groups). finite.len (groups_of shape xs) ≤ finite.len g) (row_added shape xs row)
-    (subst (λ n. finite.len (groups_of shape xs) ≤ n) (sym (finite.len-insert key_total (groups_of shape xs) (key_of shape.groups row) (with_states (groups_of shape xs) (key_of shape.groups row) (states_of shape.aggs (row ∷ [])))))
-    (len_insert (finite.contains_key (groups_of shape xs) (key_of shape.groups row)) (finite.len (groups_of shape xs))))
-
 pub len_more : (shape : Shape) (xs ys : List (List Value)) → finite.len (groups_of shape xs) ≤ finite.len (groups_of shape (xs ++ ys))
-len_more shape xs [] = subst (λ l. finite.len (groups_of shape xs) ≤ finite.len (groups_of shape l)) (sym (append-nil xs)) (omega arith)
-len_more shape xs (y ∷ ys) =
-    let step = len_row shape xs y in
-    let rest = len_more shape (xs ++ y ∷ []) ys in
-    let same : (xs ++ y ∷ []) ++ ys ≡ xs ++ (y ∷ ys) = append_assoc xs (y ∷ []) ys in
-    subst (λ l. finite.len (groups_of shape xs) ≤ finite.len (groups_of shape l)) same (omega (arith, step, rest))
+len_more shape xs ys = no_fewer shape ys (groups_of shape xs) (groups_of shape (xs ++ ys)) (of_both shape xs ys)
+
+-- ---- where the groups of before are those of some rows
+
+-- those of these too are then those of both
+pub groups_after : (query : BoundQuery) (count : ℕ) (done rows : List (List Value)) (old new : KeptGroups) → AddsRows query count rows old new
+    → groups_in old ≡ groups_of (shape_of query) done → groups_in new ≡ groups_of (shape_of query) (done ++ rows)
+groups_after query count done rows old new a so =
+    one (shape_of query) rows (groups_in old) (groups_in new) (groups_of (shape_of query) (done ++ rows)) a.groups
+    (subst (λ (g : Groups). Adds (shape_of query) rows g (groups_of (shape_of query) (done ++ rows))) (sym so) (of_both (shape_of query) done rows))
+
+pub overfull_after : (query : BoundQuery) (done rows : List (List Value)) (t : KeptGroups) → IsOverfull query rows t
+    → groups_in t ≡ groups_of (shape_of query) done → t.most < finite.len (groups_of (shape_of query) (done ++ rows))
+overfull_after query done rows t over so =
+    over (groups_of (shape_of query) (done ++ rows))
+    (subst (λ (g : Groups). Adds (shape_of query) rows g (groups_of (shape_of query) (done ++ rows))) (sym so) (of_both (shape_of query) done rows))
 
 -- ---- a row that is added, one that is left out, and one that there is no room for
 
@@ -113,7 +110,8 @@ pub adds_one : (query : BoundQuery) (row key : List Value) (values : List ℤ) (
 adds_one query row key values old new table is_key are whole m = record {
   of_query = record { columns = m.columns ∙ table.columns; kinds = m.kinds ∙ table.kinds };
   most = m.most;
-  groups = λ done so. m.groups ∙ (λ i. merged_in (so i) (is_key i) (same i)) ∙ row_added (shape_of query) done row;
+  groups = subst (λ (g : Groups). Adds (shape_of query) (row ∷ []) (groups_in old) g) (sym (m.groups ∙ (λ i. merged_in (groups_in old) (is_key i) (same i))))
+      (of_row (shape_of query) row (groups_in old));
   fits = λ n h. subst (HaveAtMost (n + 1)) (sym m.groups) (merged_fits (groups_in old) key (row_of old.kinds (values ∷ [])) n 1 h (row_fits old.kinds values whole));
 }
   where
@@ -124,7 +122,7 @@ pub adds_nothing : (query : BoundQuery) (count : ℕ) (t : KeptGroups) → IsTab
 adds_nothing query count t table = record {
   of_query = table;
   most = refl;
-  groups = λ done so. so ∙ ap (groups_of (shape_of query)) (sym (append-nil done));
+  groups = none (shape_of query) (groups_in t);
   fits = λ n h. at_most_more (groups_in t) n (n + count) (omega arith) h;
 }
 
@@ -134,13 +132,14 @@ new_one false n most e h = omega arith
 
 pub no_room : (query : BoundQuery) (row key : List Value) (t : KeptGroups) → key ≡ key_of query.groups row
     → IsNewKey t key → finite.len (groups_in t) ≡ t.most → IsOverfull query (row ∷ []) t
-no_room query row key t is_key new full done so =
+no_room query row key t is_key new full g a =
     let k = key_of query.groups row in
-    let g = groups_of (shape_of query) done in
-    let none : finite.get g k ≡ None = (λ i. finite.get (sym so i) (sym is_key i)) ∙ new in
-    subst (λ (g : Groups). t.most < finite.len g) (row_added (shape_of query) done row)
-    (subst (λ n. t.most < n) (sym (finite.len-insert key_total g k (with_states g k (states_of query.aggs (row ∷ [])))))
-    (new_one (finite.contains_key g k) (finite.len g) t.most (ap is_some none) (ap finite.len (sym so) ∙ full)))
+    let old = groups_in t in
+    let absent : finite.get old k ≡ None = ap (finite.get old) (sym is_key) ∙ new in
+    let same : merged_in old k (states_of query.aggs (row ∷ [])) ≡ g = one (shape_of query) (row ∷ []) old _ g (of_row (shape_of query) row old) a in
+    subst (λ (g : Groups). t.most < finite.len g) same
+    (subst (λ n. t.most < n) (sym (finite.len-insert key_total old k (with_states old k (states_of query.aggs (row ∷ [])))))
+    (new_one (finite.contains_key old k) (finite.len old) t.most (ap is_some absent) full))
 
 -- ---- one after the other
 
@@ -149,7 +148,7 @@ pub adds_both : (query : BoundQuery) (n m : ℕ) (xs ys : List (List Value)) (ol
 adds_both query n m xs ys old mid new a b = record {
   of_query = b.of_query;
   most = b.most ∙ a.most;
-  groups = λ done so. b.groups (done ++ xs) (a.groups done so) ∙ ap (groups_of (shape_of query)) (append_assoc done xs ys);
+  groups = joined (shape_of query) xs ys (groups_in old) (groups_in mid) (groups_in new) a.groups b.groups;
   fits = λ k h. subst (λ j. HaveAtMost j (groups_in new)) (regroup k n m) (b.fits (k + n) (a.fits k h));
 }
   where
@@ -157,14 +156,24 @@ adds_both query n m xs ys old mid new a b = record {
     regroup k n m = omega arith
 
 -- too many groups already are too many with more rows
+pub overfull_more : (query : BoundQuery) (xs ys : List (List Value)) (t : KeptGroups) → IsOverfull query xs t → IsOverfull query (xs ++ ys) t
+overfull_more query xs ys t over g all =
+    let shape = shape_of query in
+    let with_xs = some shape xs (groups_in t) in
+    let here : t.most < finite.len with_xs.0 = over with_xs.0 with_xs.1 in
+    let more : finite.len with_xs.0 ≤ finite.len g = no_fewer shape ys with_xs.0 g (rest shape xs ys (groups_in t) with_xs.0 g with_xs.1 all) in
+    omega (arith, here, more)
+
+-- too many after some rows are too many with these
+pub overfull_past : (query : BoundQuery) (xs ys : List (List Value)) (old mid : KeptGroups) → Adds (shape_of query) xs (groups_in old) (groups_in mid)
+    → mid.most ≡ old.most → IsOverfull query ys mid → IsOverfull query (xs ++ ys) old
+overfull_past query xs ys old mid adds most over g all =
+    subst (λ m. m < finite.len g) most (over g (rest (shape_of query) xs ys (groups_in old) (groups_in mid) g adds all))
+
 pub overfull_later : (query : BoundQuery) (n : ℕ) (xs ys zs : List (List Value)) (old mid : KeptGroups) → AddsRows query n xs old mid
     → IsOverfull query ys mid → IsOverfull query (xs ++ (ys ++ zs)) old
-overfull_later query n xs ys zs old mid a over done so =
-    let here = over (done ++ xs) (a.groups done so) in
-    let more = len_more (shape_of query) ((done ++ xs) ++ ys) zs in
-    let same : ((done ++ xs) ++ ys) ++ zs ≡ done ++ (xs ++ (ys ++ zs)) = rw (append_assoc, append_assoc) refl in
-    subst (λ l. old.most < finite.len (groups_of (shape_of query) l)) same
-    (subst (λ m. m < finite.len (groups_of (shape_of query) (((done ++ xs) ++ ys) ++ zs))) a.most (omega (arith, here, more)))
+overfull_later query n xs ys zs old mid a over =
+    overfull_past query xs (ys ++ zs) old mid a.groups a.most (overfull_more query ys zs mid over)
 
 -- ---- the rows of a list, one after the other
 

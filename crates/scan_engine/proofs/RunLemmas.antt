@@ -1,9 +1,9 @@
 -- Rows of one key, which are added to the group of that key at once.
-use Rattle.std.proofs.Common.{◌≡◌, ◌∙◌, ℕ, ◌+◌, ◌<◌, ◌≤◌, Bool, true, false, cond, ◌||◌, List, [], ◌∷◌, ◌++◌, map, length, Option, Some, None, Result, Ok, Err, append_assoc, get_or, take, drop, refl, sym, ap, subst, arith, is_some}
+use Rattle.std.proofs.Common.{◌≡◌, ◌∙◌, ℕ, ◌+◌, ◌<◌, ◌≤◌, Bool, true, false, cond, List, [], ◌∷◌, ◌++◌, map, length, Option, Some, None, Result, Ok, Err, append_assoc, get_or, take, drop, refl, sym, ap, subst, arith, is_some}
 use Rattle.std.specs.Prelude.{ℤ}
 use Rattle.std.proofs.lemmas.List.Elements.{All-cons, All-head, All-nil, All-tail}
 use Rattle.std.proofs.lemmas.Map.Views.{tells_apart}
-use Rattle.std.specs.List.{All, filter, list_any}
+use Rattle.std.specs.List.{All, filter}
 use Rattle.std.specs.Option.{option_map_or}
 use Rattle.std.specs.Ordering.{eq_by_cmp}
 use Rattle.std.specs.FinMap as finite
@@ -25,11 +25,11 @@ use Rattle.agg_laws.specs.laws.Rows as rows
 use Rattle.state_columns.proofs.MergedLemmas.{join_none}
 use Rattle.table_schema.specs.declared.query.Agg.{Agg}
 use Rattle.table_schema.specs.declared.query.BoundQuery.{BoundQuery}
-use Rattle.group_table.specs.Groups.{Groups, groups_of, has_key, is_key, key_of, key_order, merged_in, number_for, states_of, with_states}
+use Rattle.group_table.specs.Groups.{Adds, Groups, has_key, key_of, key_order, merged_in, number_for, some_states, states_for, states_of, with_states}
 use Rattle.group_table.specs.Kept.{HaveValues, IsNewKey, IsTableOf, KeptGroups, Merges, groups_in}
 use Rattle.group_table.specs.Shape.{Shape, shape_of}
 use Rattle.group_table.proofs.KeptLemmas.{key_same, key_total}
-use Rattle.group_table.proofs.GroupsLemmas.{found, of_both, one}
+use Rattle.group_table.proofs.GroupsLemmas.{one}
 use Rattle.scan_engine.specs.Places.{IsRun, rows_at}
 use Rattle.scan_engine.specs.Scanned.{AddsRows, HaveAtMost, IsOverfull}
 use Rattle.scan_engine.proofs.AddLemmas.{at_most_more, merged_fits, new_one, overfull_later}
@@ -80,14 +80,6 @@ more_or_none : {X : Type 0} (b : Bool) (x : X) (xs : List X) → cond b (x ∷ c
 more_or_none true x xs = refl
 more_or_none false x xs = refl
 
-or_false : (b : Bool) → b || false ≡ b
-or_false true = refl
-or_false false = refl
-
-or_self : (b : Bool) → b || b ≡ b
-or_self true = refl
-or_self false = refl
-
 -- the row has this key
 abbrev OfKey : List ℕ → List Value → List Value → Type 0
 OfKey groups key row = key_of groups row ≡ key
@@ -102,32 +94,21 @@ run_filter groups key q (row ∷ rest) all =
     (λ i. cond (eq_by_cmp key_order q (here i)) (row ∷ more i) (more i))
     ∙ more_or_none (eq_by_cmp key_order q key) row rest
 
-run_any : (groups : List ℕ) (key q : List Value) (row : List Value) (rest : List (List Value)) → All (OfKey groups key) (row ∷ rest)
-    → list_any (has_key groups q) (row ∷ rest) ≡ eq_by_cmp key_order q key
-run_any groups key q row [] all =
-    let here : key_of groups row ≡ key = All-head (OfKey groups key) row [] all in
-    ap (λ k. eq_by_cmp key_order q k || false) here ∙ or_false (eq_by_cmp key_order q key)
-run_any groups key q row (next ∷ rest) all =
-    let here : key_of groups row ≡ key = All-head (OfKey groups key) row (next ∷ rest) all in
-    let more = run_any groups key q next rest (All-tail (OfKey groups key) row (next ∷ rest) all) in
-    (λ i. eq_by_cmp key_order q (here i) || more i) ∙ or_self (eq_by_cmp key_order q key)
-
-none_left : (key : List Value) → length key ≡ 0 → key ≡ []
-none_left [] h = refl
-none_left (v ∷ vs) h = absurd (omega (arith, h))
-
-run_key : (groups : List ℕ) (key q : List Value) (rows : List (List Value)) → IsRun groups key rows → is_key groups rows q ≡ eq_by_cmp key_order q key
-run_key [] key q rows r = ap (eq_by_cmp key_order q) (sym (none_left key r.width))
-run_key (column ∷ columns) key q [] r = absurd (omega (arith, r.some (omega arith)))
-run_key (column ∷ columns) key q (row ∷ rest) r = run_any (column ∷ columns) key q row rest r.each
+run_states : (shape : Shape) (key q : List Value) (run : List (List Value)) → IsRun shape.groups key run
+    → states_for shape run q ≡ cond (eq_by_cmp key_order q key) (Some (states_of shape.aggs run)) None
+run_states shape key q [] r = absurd (omega (arith, r.some))
+run_states shape key q (row ∷ more) r = ap (some_states shape.aggs) (run_filter shape.groups key q (row ∷ more) r.each) ∙ by (eq_by_cmp key_order q key)
+  where
+    by : (b : Bool) → some_states shape.aggs (cond b (row ∷ more) []) ≡ cond b (Some (states_of shape.aggs (row ∷ more))) None
+    by true = refl
+    by false = refl
 
 run_each : (shape : Shape) (key : List Value) (run : List (List Value)) (old : Groups) (q : List Value) → IsRun shape.groups key run
-    → finite.get (merged_in old key (states_of shape.aggs run)) q ≡ join_some merged_rows (finite.get old q) (finite.get (groups_of shape run) q)
+    → finite.get (merged_in old key (states_of shape.aggs run)) q ≡ join_some merged_rows (finite.get old q) (states_for shape run q)
 run_each shape key run old q r =
     finite.get-insert key_total old key (with_states old key (states_of shape.aggs run)) q
     ∙ by (eq_by_cmp key_order q key) refl
-    ∙ ap (join_some merged_rows (finite.get old q)) (sym (found shape run q
-    ∙ (λ i. cond (run_key shape.groups key q run r i) (Some (states_of shape.aggs (run_filter shape.groups key q run r.each i))) None)))
+    ∙ ap (join_some merged_rows (finite.get old q)) (sym (run_states shape key q run r))
   where
     is_join : IsJoin merged_rows
     is_join = record { assoc = rows.any_grouping; comm = rows.any_order }
@@ -138,15 +119,14 @@ run_each shape key run old q r =
 
     by : (b : Bool) → eq_by_cmp key_order q key ≡ b
         → cond b (Some (with_states old key (states_of shape.aggs run))) (finite.get old q)
-        ≡ join_some merged_rows (finite.get old q) (cond b (Some (states_of shape.aggs (cond b run []))) None)
+        ≡ join_some merged_rows (finite.get old q) (cond b (Some (states_of shape.aggs run)) None)
     by true t = with_own (finite.get old key) (states_of shape.aggs run)
         ∙ ap (λ k. join_some merged_rows (finite.get old k) (Some (states_of shape.aggs run))) (sym (tells_apart key_same q key t))
     by false t = sym (join_none merged_rows is_join (finite.get old q))
 
-pub run_added : (shape : Shape) (done : List (List Value)) (key : List Value) (run : List (List Value)) → IsRun shape.groups key run
-    → merged_in (groups_of shape done) key (states_of shape.aggs run) ≡ groups_of shape (done ++ run)
-run_added shape done key run r = one shape run (groups_of shape done) _ _
-    (record { each = λ q. run_each shape key run (groups_of shape done) q r }) (of_both shape done run)
+pub run_added : (shape : Shape) (key : List Value) (run : List (List Value)) (old : Groups) → IsRun shape.groups key run
+    → Adds shape run old (merged_in old key (states_of shape.aggs run))
+run_added shape key run old r = record { each = λ q. run_each shape key run old q r }
 
 -- ---- a run that is added, and one that there is no room for
 
@@ -156,19 +136,20 @@ pub adds_run : (query : BoundQuery) (count : ℕ) (run : List (List Value)) (key
 adds_run query count run key states old new table r are fits m = record {
   of_query = record { columns = m.columns ∙ table.columns; kinds = m.kinds ∙ table.kinds };
   most = m.most;
-  groups = λ done so. m.groups ∙ (λ i. merged_in (so i) key (are i)) ∙ run_added (shape_of query) done key run r;
+  groups = subst (λ (g : Groups). Adds (shape_of query) run (groups_in old) g) (sym (m.groups ∙ ap (merged_in (groups_in old) key) are))
+      (run_added (shape_of query) key run (groups_in old) r);
   fits = λ n h. subst (HaveAtMost (n + count)) (sym m.groups) (merged_fits (groups_in old) key states n count h fits);
 }
 
 pub no_room_for_run : (query : BoundQuery) (run : List (List Value)) (key : List Value) (t : KeptGroups) → IsRun query.groups key run
     → IsNewKey t key → finite.len (groups_in t) ≡ t.most → IsOverfull query run t
-no_room_for_run query run key t r new full done so =
-    let g = groups_of (shape_of query) done in
+no_room_for_run query run key t r new full g a =
+    let old = groups_in t in
     let states = states_of query.aggs run in
-    let none : finite.get g key ≡ None = ap (λ (g : Groups). finite.get g key) (sym so) ∙ new in
-    subst (λ (g : Groups). t.most < finite.len g) (run_added (shape_of query) done key run r)
-    (subst (λ n. t.most < n) (sym (finite.len-insert key_total g key (with_states g key states)))
-    (new_one (finite.contains_key g key) (finite.len g) t.most (ap is_some none) (ap finite.len (sym so) ∙ full)))
+    let same : merged_in old key states ≡ g = one (shape_of query) run old _ g (run_added (shape_of query) key run old r) a in
+    subst (λ (g : Groups). t.most < finite.len g) same
+    (subst (λ n. t.most < n) (sym (finite.len-insert key_total old key (with_states old key states)))
+    (new_one (finite.contains_key old key) (finite.len old) t.most (ap is_some new) full))
 
 -- ---- the run of all rows where there are no group columns
 
@@ -176,9 +157,9 @@ all_whole : (rows : List (List Value)) → All (OfKey [] []) rows
 all_whole [] = All-nil (OfKey [] [])
 all_whole (row ∷ rows) = All-cons (OfKey [] []) row rows refl (all_whole rows)
 
-pub whole_run : (groups : List ℕ) (key : List Value) (rows : List (List Value)) → groups ≡ [] → key ≡ [] → IsRun groups key rows
-whole_run groups key rows none empty = subst (λ (groups : List ℕ). IsRun groups key rows) (sym none) (subst (λ (key : List Value). IsRun [] key rows) (sym empty)
-    (record { width = refl; each = all_whole rows; some = λ lt. absurd (omega (arith, lt)) }))
+pub whole_run : (groups : List ℕ) (key : List Value) (rows : List (List Value)) → groups ≡ [] → key ≡ [] → 0 < length rows → IsRun groups key rows
+whole_run groups key rows none empty some = subst (λ (groups : List ℕ). IsRun groups key rows) (sym none) (subst (λ (key : List Value). IsRun [] key rows) (sym empty)
+    (record { width = refl; each = all_whole rows; some = some }))
 
 -- the rows may be counted as more
 pub adds_as_more : (query : BoundQuery) (n m : ℕ) (rows : List (List Value)) (old new : KeptGroups) → n ≤ m → AddsRows query n rows old new → AddsRows query m rows old new

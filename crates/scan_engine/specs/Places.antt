@@ -9,8 +9,8 @@ use Rattle.group_table.specs.Groups.{key_of}
 abbrev pub rows_at : List Listed → List ℕ → List (List Value)
 rows_at columns places = map (row_of columns) places
 
--- rows that all have this key, and where there are group columns at least one row
+-- rows that all have this key, at least one row
 pub record IsRun (groups : List ℕ) (key : List Value) (rows : List (List Value)) : Type 0 where
   pub width : length key ≡ length groups
   pub each : All (λ row. key_of groups row ≡ key) rows
-  pub some : 0 < length groups → 0 < length rows
+  pub some : 0 < length rows

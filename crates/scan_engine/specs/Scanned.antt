@@ -1,12 +1,12 @@
 -- The groups of a query over rows, of which more and more are added.
-use Rattle.std.specs.Prelude.{◌≡◌, ◌≤◌, ◌+◌, ◌-◌, ◌<◌, ◌++◌, ℕ, Bool, List, [], filter, cond, IfSome, ◌∷◌, Result, Err, OnOk}
+use Rattle.std.specs.Prelude.{◌≡◌, ◌≤◌, ◌+◌, ◌-◌, ◌<◌, ℕ, Bool, List, [], filter, cond, IfSome, ◌∷◌, Result, Err, OnOk}
 use Rattle.std.specs.FinMap as finite
 use Rattle.values.specs.declared.value.Value.{Value}
 use Rattle.agg_laws.specs.Numbers.{most_values}
 use Rattle.agg_laws.specs.Rows.{RowFits}
 use Rattle.table_schema.specs.Conditions.{all_hold}
 use Rattle.table_schema.specs.declared.query.BoundQuery.{BoundQuery}
-use Rattle.group_table.specs.Groups.{Groups, groups_of}
+use Rattle.group_table.specs.Groups.{Adds, Groups}
 use Rattle.group_table.specs.Kept.{KeptGroups, IsTableOf, groups_in}
 use Rattle.group_table.specs.Shape.{shape_of}
 use Rattle.group_table.specs.declared.fault.TableFault.{TableFault}
@@ -22,20 +22,18 @@ HaveAtMost n groups = (key : List Value) → IfSome (finite.get groups key)
     (λ states. RowFits states n)
 
 -- what a table is after `count` rows more, of which these are added: it is one for the same query,
--- and groups of some rows are then those of these too
+-- and its groups are those of before with these rows in them, whatever they were
 pub record AddsRows (query : BoundQuery) (count : ℕ) (rows : List (List Value))
     (old new : KeptGroups) : Type 0 where
   pub of_query : IsTableOf query new
   pub most : new.most ≡ old.most
-  pub groups : (done : List (List Value)) → groups_in old ≡ groups_of (shape_of query) done
-      → groups_in new ≡ groups_of (shape_of query) (done ++ rows)
+  pub groups : Adds (shape_of query) rows (groups_in old) (groups_in new)
   pub fits : (n : ℕ) → HaveAtMost n (groups_in old) → HaveAtMost (n + count) (groups_in new)
 
--- with these rows too there are more groups than the table may have
+-- with these rows in them there are more groups than the table may have
 abbrev pub IsOverfull : BoundQuery → List (List Value) → KeptGroups → Type 0
-IsOverfull query rows table = (done : List (List Value)) → groups_in table
-    ≡ groups_of (shape_of query) done
-    → table.most < finite.len (groups_of (shape_of query) (done ++ rows))
+IsOverfull query rows table = (new : Groups) → Adds (shape_of query) rows (groups_in table) new
+    → table.most < finite.len new
 
 -- a row, where it is marked
 abbrev pub marked : Bool → List Value → List (List Value)

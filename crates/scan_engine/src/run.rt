@@ -52,6 +52,9 @@ fn add_whole(
         (in_pool table.new pool.new) result }
     ensures stays { StaysIn table.old pool.old table.new pool.new }
 {
+    if places.is_empty() {
+        return Ok(());
+    }
     let key = Row::new(alloc);
     add_run(alloc, query, block, &key, places, table, pool)
 }

@@ -51,11 +51,11 @@ decoded_at coded at c d lt is = ap decoded is ∙ sym (get_or-map decoded coded.
 pub many_columns : (table : Table) (coded : CodedColumns) → AreCoded table coded → length coded.columns.items ≡ length table.schema.fields
 many_columns table coded are = sym (length-map coded.columns.items decoded) ∙ are.of_table.columns.width
 
-pub codes_of : (c : CodedColumn) → IsCoding c → Codes (dictionary_of_ids c).values c.ids.items (row_values c)
+pub codes_of : (c : CodedColumn) → IsCoding c → Codes (dictionary_of_ids c).values c.ids (row_values c)
 codes_of c coding = record { each = refl; below = coding.below }
 
-pub ids_own : (c : CodedColumn) → IsCoding c → c.ids.items ≡ ids_in (row_values c)
-ids_own c coding = ids_are (dictionary_of_ids c).values (row_values c) c.ids.items coding.are (codes_of c coding)
+pub ids_own : (c : CodedColumn) → IsCoding c → c.ids ≡ ids_in (row_values c)
+ids_own c coding = ids_are (dictionary_of_ids c).values (row_values c) c.ids coding.are (codes_of c coding)
 
 pub values_of : (table : Table) (coded : CodedColumns) (at : ℕ) (c : CodedColumn) → AreCoded table coded → at < length coded.columns.items → c ≡ get_or coded.columns.items at c → values_in at (rows_of (columns_in coded)) ≡ row_values c
 values_of table coded at c are lt is =
@@ -63,19 +63,19 @@ values_of table coded at c are lt is =
     let below : at < length t.columns = omega (arith, lt, length-map coded.columns.items decoded) in
     column_values t.count t.columns at (decoded c) are.of_table.columns.counts below ∙ ap (λ (l : Listed). l.values) (sym (decoded_at coded at c (decoded c) lt is))
 
-pub ids_long : (table : Table) (coded : CodedColumns) (at : ℕ) (c : CodedColumn) → AreCoded table coded → at < length coded.columns.items → c ≡ get_or coded.columns.items at c → length c.ids.items ≡ coded.rows
+pub ids_long : (table : Table) (coded : CodedColumns) (at : ℕ) (c : CodedColumn) → AreCoded table coded → at < length coded.columns.items → c ≡ get_or coded.columns.items at c → length c.ids ≡ coded.rows
 ids_long table coded at c are lt is =
     let t : ListedColumns = columns_in coded in
     let below : at < length t.columns = omega (arith, lt, length-map coded.columns.items decoded) in
-    sym (length-map c.ids.items (λ id. get_or (dictionary_of_ids c).values id (Whole (pos 0))))
+    sym (length-map c.ids (λ id. get_or (dictionary_of_ids c).values id (Whole (pos 0))))
     ∙ ap (λ (l : Listed). length l.values) (decoded_at coded at c (decoded c) lt is) ∙ are.of_table.columns.counts at (decoded c) below
 
 -- the ids of the rows as they came
-pub ids_given : (table : Table) (coded : CodedColumns) (at : ℕ) (c : CodedColumn) → AreCoded table coded → at < length coded.columns.items → c ≡ get_or coded.columns.items at c → c.ids.items ≡ ids_of (rows_of (columns_in coded)) at
+pub ids_given : (table : Table) (coded : CodedColumns) (at : ℕ) (c : CodedColumn) → AreCoded table coded → at < length coded.columns.items → c ≡ get_or coded.columns.items at c → c.ids ≡ ids_of (rows_of (columns_in coded)) at
 ids_given table coded at c are lt is = ids_own c (are.each at c lt is) ∙ ap ids_in (sym (values_of table coded at c are lt is))
 
-pub own_ids : (coded : CodedColumns) (at : ℕ) (c : CodedColumn) → at < length coded.columns.items → c ≡ get_or coded.columns.items at c → ids_at coded at ≡ c.ids.items
-own_ids coded at c lt is = get_or-map (λ (x : CodedColumn). x.ids.items) coded.columns.items at c [] lt ∙ ap (λ (x : CodedColumn). x.ids.items) (sym is)
+pub own_ids : (coded : CodedColumns) (at : ℕ) (c : CodedColumn) → at < length coded.columns.items → c ≡ get_or coded.columns.items at c → ids_at coded at ≡ c.ids
+own_ids coded at c lt is = get_or-map (λ (x : CodedColumn). x.ids) coded.columns.items at c [] lt ∙ ap (λ (x : CodedColumn). x.ids) (sym is)
 
 pub split_given : (table : Table) (coded : CodedColumns) (split : List ℕ) → AreCoded table coded → All (λ column. column < length coded.columns.items) split → map (ids_at coded) split ≡ map (ids_of (rows_of (columns_in coded))) split
 split_given table coded [] are within = refl
@@ -90,7 +90,7 @@ split_given table coded (at ∷ split) are within =
 
 -- and as they are put in their order
 pub coded_at : (table : Table) (coded : CodedColumns) (at : ℕ) (c : CodedColumn) (o : RowOrder) → AreCoded table coded → at < length coded.columns.items → c ≡ get_or coded.columns.items at c
-    → Orders table.settings.sorted (rows_of (columns_in coded)) o → IsCoded table (columns_in coded) at (dictionary_of_ids c) (arranged 0 o c.ids.items)
+    → Orders table.settings.sorted (rows_of (columns_in coded)) o → IsCoded table (columns_in coded) at (dictionary_of_ids c) (arranged 0 o c.ids)
 coded_at table coded at c o are lt is orders =
     let t : ListedColumns = columns_in coded in
     let coding = are.each at c lt is in
@@ -107,15 +107,15 @@ pub may_push : (table : Table) (coded : CodedColumns) (at : ℕ) (c : CodedColum
 may_push table coded at c o indexes are lt is orders number =
     let t : ListedColumns = columns_in coded in
     let k = coded_at table coded at c o are lt is orders in
-    let count : length (rows_of t) ≡ length c.ids.items = length-rows t.count t.columns are.of_table.columns.counts ∙ sym (ids_long table coded at c are lt is) in
+    let count : length (rows_of t) ≡ length c.ids = length-rows t.count t.columns are.of_table.columns.counts ∙ sym (ids_long table coded at c are lt is) in
     record {
       within = subst (λ n. AreBelow n (places_in o)) count orders.within;
-      at_most = coded_few table t at (dictionary_of_ids c) (arranged 0 o c.ids.items) are.of_table.columns k;
-      below = coded_below table t at (dictionary_of_ids c) (arranged 0 o c.ids.items) k;
-      ascend = λ holds. coded_up table t at o (dictionary_of_ids c) (arranged 0 o c.ids.items) indexes.sorted orders k number holds;
+      at_most = coded_few table t at (dictionary_of_ids c) (arranged 0 o c.ids) are.of_table.columns k;
+      below = coded_below table t at (dictionary_of_ids c) (arranged 0 o c.ids) k;
+      ascend = λ holds. coded_up table t at o (dictionary_of_ids c) (arranged 0 o c.ids) indexes.sorted orders k number holds;
     }
 
-pub ids_few : (table : Table) (coded : CodedColumns) (at : ℕ) (c : CodedColumn) → AreCoded table coded → at < length coded.columns.items → c ≡ get_or coded.columns.items at c → length c.ids.items ≤ 1048576
+pub ids_few : (table : Table) (coded : CodedColumns) (at : ℕ) (c : CodedColumn) → AreCoded table coded → at < length coded.columns.items → c ≡ get_or coded.columns.items at c → length c.ids ≤ 1048576
 ids_few table coded at c are lt is =
     let t : ListedColumns = columns_in coded in
     omega (arith, ids_long table coded at c are lt is, length-rows t.count t.columns are.of_table.columns.counts, rows_most table.schema.fields t are.of_table.columns)
@@ -144,7 +144,7 @@ pub codings_none : (table : Table) (t : ListedColumns) (all : List CodedColumn) 
 codings_none table t all none = record { many = ap length none; each = λ at c lt is. absurd (omega (arith, lt)) }
 
 pub coding_one : (table : Table) (t : ListedColumns) (at : ℕ) (field : Field) (column : Listed) (c : CodedColumn) → at < length table.schema.fields → field ≡ get_or table.schema.fields at field → slice_get t.columns at ≡ Some column
-    → (dictionary_of_ids c).kind ≡ field.kind → (dictionary_of_ids c).values ≡ distinct column.values → Codes (dictionary_of_ids c).values c.ids.items column.values → IsCodingOf table t at c
+    → (dictionary_of_ids c).kind ≡ field.kind → (dictionary_of_ids c).values ≡ distinct column.values → Codes (dictionary_of_ids c).values c.ids column.values → IsCodingOf table t at c
 coding_one table t at field column c lt is column_is kind are codes =
     let found : slice_get table.schema.fields at ≡ Some field = slice_get-get_or table.schema.fields at field lt ∙ ap Some (sym is) in
     record {

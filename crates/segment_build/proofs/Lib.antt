@@ -14,4 +14,5 @@ pub mod Built
 pub mod Growing
 pub mod MadeLemmas
 pub mod RangeLemmas
+pub mod OnceReads
 pub mod MergeLemmas

@@ -30,7 +30,7 @@ dictionary_of_ids c = dictionary_in c.values
 
 -- the values of the rows in it
 abbrev pub row_values : CodedColumn → List Value
-row_values c = values_at (dictionary_of_ids c).values c.ids.items
+row_values c = values_at (dictionary_of_ids c).values c.ids
 
 -- the columns of values
 abbrev pub decoded : CodedColumn → Listed
@@ -41,11 +41,11 @@ columns_in coded = record { columns = map decoded coded.columns.items; count = c
 
 -- the ids of the rows in a column
 abbrev pub ids_at : CodedColumns → ℕ → List ℕ
-ids_at coded column = get_or (map (λ c. c.ids.items) coded.columns.items) column []
+ids_at coded column = get_or (map (λ c. c.ids) coded.columns.items) column []
 
 -- each id is one of a value, and each value is one of a row
 pub record IsCoding (c : CodedColumn) : Type 0 where
-  pub below : AreBelow (length (dictionary_of_ids c).values) c.ids.items
+  pub below : AreBelow (length (dictionary_of_ids c).values) c.ids
   pub are : (dictionary_of_ids c).values ≡ distinct (row_values c)
 
 -- so are those of each column
@@ -62,10 +62,10 @@ pub record AreCoded (table : Table) (coded : CodedColumns) : Type 0 where
 
 -- the ids of a column's rows in their order are few, and those of the sorted one ascend
 pub record MayPush (c : CodedColumn) (order : RowOrder) (indexes : Indexes) : Type 0 where
-  pub within : AreBelow (length c.ids.items) (places_in order)
-  pub at_most : length (arranged 0 order c.ids.items) ≤ 1048576
-  pub below : AreBelow (length (dictionary_of_ids c).values) (arranged 0 order c.ids.items)
-  pub ascend : indexes.sorted ≡ true → IsNonDecreasing (arranged 0 order c.ids.items)
+  pub within : AreBelow (length c.ids) (places_in order)
+  pub at_most : length (arranged 0 order c.ids) ≤ 1048576
+  pub below : AreBelow (length (dictionary_of_ids c).values) (arranged 0 order c.ids)
+  pub ascend : indexes.sorted ≡ true → IsNonDecreasing (arranged 0 order c.ids)
 
 -- ---- their numbers
 

@@ -4,7 +4,7 @@ use Rattle.outside.specs.Files.{bytes_of}
 use Rattle.outside.specs.Seen.{OnlyReads, Seen}
 use Rattle.segment_build.specs.declared.fault.CompareFault.{CompareFault}
 use Rattle.segment_build.specs.declared.fault.CompareFault.TheVariants.{Differs, Failed}
-use Rattle.segment_build.specs.FileReads.{LogsFile}
+use Rattle.segment_build.specs.FileReads.{LogsFile, LogsOnce}
 
 -- the file that is compared, and the place up to which it was found the same
 pub record Compared : Type 0 where
@@ -35,3 +35,5 @@ pub record Compares (bytes : List ℕ) (result : Result (Unit {0}) CompareFault)
       × DifferAt bytes (drop old.at (bytes_of (Some files) old.file)) n)
   pub only_reads : OnlyReads (IsErrOf result Failed) before after
   pub log : LogsFile old.file before.log after.log
+  pub once : old.at + length bytes < 2 ^ 64
+      → LogsOnce old.file old.at (old.at + length bytes) before.log after.log

@@ -7,7 +7,7 @@ use Rattle.outside.specs.Seen.{OnlyReads, Seen}
 use Rattle.segment_build.specs.declared.fault.CompareFault.{CompareFault}
 use Rattle.segment_build.specs.declared.fault.CompareFault.TheVariants.{Failed, NoMemory}
 use Rattle.segment_build.specs.Compared.{Compared, Compares, DifferAt}
-use Rattle.segment_build.specs.FileReads.{LogsFile, file_then, file_unread}
+use Rattle.segment_build.specs.FileReads.{LogsFile, LogsOnce, file_then, file_unread, once_none, once_then, once_wider}
 
 -- ---- lists
 
@@ -166,6 +166,16 @@ compares_joined a b r x y z s t u first then =
           (went_well s t first.only_reads) then.only_reads;
       log = file_then x.file s.log t.log u.log first.log
           (subst (λ f. LogsFile f t.log u.log) first.file then.log);
+      once = λ small.
+          (let at : y.at ≡ x.at + length a = first.moved (omega (arith, long)) in
+          let rest : LogsOnce x.file y.at (y.at + length b) t.log u.log =
+          subst (λ f. LogsOnce f y.at (y.at + length b) t.log u.log) first.file (then.once (omega
+          (arith, long, at))) in
+          once_wider x.file x.at (y.at + length b) x.at (x.at + length (a ++ b)) s.log u.log
+          (once_then x.file x.at (x.at + length a) y.at (y.at + length b) s.log t.log u.log
+          (omega (arith, at)) (omega (arith, at)) (omega (arith, at))
+          (first.once (omega (arith, long))) rest)
+          (omega arith) (omega (arith, at, long)));
     }
 
 pub compares_stopped : (a b : List ℕ) (fault : CompareFault) (x y : Compared)
@@ -188,6 +198,9 @@ compares_stopped a b fault x y s t first =
           (first.differs (omega (arith, long)) is);
       only_reads = first.only_reads;
       log = first.log;
+      once = λ small.
+          once_wider x.file x.at (x.at + length a) x.at (x.at + length (a ++ b)) s.log t.log
+          (first.once (omega (arith, long))) (omega arith) (omega (arith, long));
     }
 
 -- where there is no memory for some, nothing is compared
@@ -207,4 +220,5 @@ compares_declined a x s = record {
     unchanged = λ fine. refl;
   };
   log = file_unread x.file s.log s.log refl;
+  once = λ small. once_none x.file x.at (x.at + length a) s.log s.log refl;
 }

@@ -3,6 +3,7 @@ ghost use Rattle.std.specs.Prelude.{◌≡◌};
 ghost use Rattle.segment_build.specs.Coded.{dictionary_in};
 
 use dictionary::Dictionary;
+use row_ids::RowIds;
 
 /// A dictionary that is lent, or one of the column's own.
 #[derive(Drop)]
@@ -28,7 +29,7 @@ impl<'a> ColumnValues<'a> {
 #[derive(Drop)]
 pub struct CodedColumn<'a> {
     pub values: ColumnValues<'a>,
-    pub ids: Vec<u32>,
+    pub ids: RowIds,
 }
 
 /// Rows that are kept column by column, as ids.

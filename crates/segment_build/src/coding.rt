@@ -8,6 +8,7 @@ ghost use Rattle.segment_build.specs.Fitting.{AreOfTable};
 use crate::coded::{CodedColumn, CodedColumns, ColumnValues};
 use dictionary::Dictionary;
 use outside::NoMemory;
+use row_ids::RowIds;
 use std::alloc::Global;
 use table_schema::Table;
 use values::Columns;
@@ -37,6 +38,7 @@ pub(crate) fn code_columns<'a>(
     'columns: for at in 0..fields.len() {
         let column = columns.column(at);
         let (dictionary, ids) = Dictionary::of_column(alloc, fields[at].kind, column)?;
+        let ids = RowIds::of(alloc, ids, dictionary.count())?;
         let values = ColumnValues::Own(dictionary);
         all.push(CodedColumn { values, ids })?;
     }

@@ -4,7 +4,7 @@ ghost use Rattle.outside.specs.Files.{bytes_of};
 ghost use Rattle.outside.specs.Reads.{Fills};
 ghost use Rattle.outside.specs.Seen.{OnlyReads, seen};
 ghost use Rattle.segment_build.specs.Compared.{IsCommon};
-ghost use Rattle.segment_build.specs.FileReads.{LogsFile};
+ghost use Rattle.segment_build.specs.FileReads.{LogsFile, LogsOnce};
 
 use crate::{CompareFault, PIECE, Taker};
 use outside::{Name, NoMemory, Shelf, ShelfFault, read_into};
@@ -107,6 +107,8 @@ fn common_front<S: Shelf>(
     ensures only_reads { OnlyReads (IsErrOf result CompareFault.Failed)
         (seen S.Shelf shelf.old) (seen S.Shelf shelf.new) }
     ensures log { LogsFile file.now (S.log shelf.old) (S.log shelf.new) }
+    ensures once { LogsOnce file.now at (at + length piece.now)
+        (S.log shelf.old) (S.log shelf.new) }
     ensures never { ¬ IsErrOf result CompareFault.Differs }
 {
     let into = &mut buffer[..piece.len()];
@@ -131,6 +133,8 @@ fn read_there<S: Shelf>(
     ensures only_reads { OnlyReads (IsErrOf result CompareFault.Failed)
         (seen S.Shelf shelf.old) (seen S.Shelf shelf.new) }
     ensures log { LogsFile file.now (S.log shelf.old) (S.log shelf.new) }
+    ensures once { LogsOnce file.now at (at + length into.old)
+        (S.log shelf.old) (S.log shelf.new) }
     ensures never { ¬ IsErrOf result CompareFault.Differs }
 {
     match read_into(alloc, shelf, file, at, into) {

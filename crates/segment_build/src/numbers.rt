@@ -76,7 +76,11 @@ fn column_numbers(alloc: Global, column: &CodedColumn) -> Result<Vec<i64>, NoMem
     ensures { IfOk result (λ v. v.items ≡ numbers_in (decoded column.now)) }
 {
     match column.values.dictionary().numbers() {
-        Some(numbers) => gathered(alloc, column.ids.as_slice(), numbers),
+        Some(numbers) => {
+            let mut ids = Vec::new(alloc);
+            column.ids.put_all(&mut ids)?;
+            gathered(alloc, ids.as_slice(), numbers)
+        }
         None => zeros(alloc, column.ids.len()),
     }
 }

@@ -31,10 +31,12 @@ pub(crate) fn row_order(
 // rows stay as they came.
 fn order_by(alloc: Global, column: &CodedColumn) -> Result<RowOrder, NoMemory>
     requires coded { IsCoding column.now }
-    requires at_most { length column.now.ids.items ≤ 1048576 }
+    requires at_most { length column.now.ids ≤ 1048576 }
     ensures { IfOk result (λ order. OrdersBy (row_values column.now) order) }
 {
-    let ids = column.ids.as_slice();
+    let mut room = Vec::new(alloc);
+    column.ids.put_all(&mut room)?;
+    let ids = room.as_slice();
     if ids.is_sorted() {
         return Ok(RowOrder::AsGiven);
     }

@@ -10,11 +10,11 @@ ghost use Rattle.segment_build.specs.Made.{each_bytes, section_bytes};
 ghost use Rattle.segment_build.specs.Sections.{in_order, made_of, only, with_column};
 ghost use Rattle.values.specs.Columns.{rows_of};
 ghost use Rattle.segment_file.specs.Ordered.{ordered};
-ghost use Rattle.segment_build.specs.Arranging.{Orders, arranged};
+ghost use Rattle.segment_build.specs.Arranging.{Orders, arranged, places_in};
 ghost use Rattle.segment_build.specs.Coded.{AreCoded, MayPush, columns_in, dictionary_of_ids};
 
 use crate::coded::{CodedColumn, CodedColumns};
-use crate::coding::{RowOrder, gathered};
+use crate::coding::RowOrder;
 use crate::grown::Grown;
 use crate::indexes::{Indexes, indexes_at};
 use crate::section::MadeSection;
@@ -22,6 +22,7 @@ use bit_column::width_for;
 use dictionary::Dictionary;
 use inverted_lists::{write_inverted, write_ranged, write_sorted};
 use outside::{NoMemory, Seq};
+use row_ids::RowIds;
 use segment_file::push_ends;
 use std::alloc::Global;
 use std::marker::Model;
@@ -155,33 +156,47 @@ pub(crate) fn column_sections(
 {
     let count = table.schema.fields.len();
     let mut sections = Sections::with_capacity(alloc, count)?;
+    let mut ids = Vec::new(alloc);
     'columns: for at in 0..count {
         let indexes = indexes_at(&table.settings, at);
-        push_column(alloc, &coded.columns[at], order, indexes, &mut sections)?;
+        push_column(
+            alloc,
+            &coded.columns[at],
+            order,
+            indexes,
+            &mut ids,
+            &mut sections,
+        )?;
     }
     Ok(sections)
 }
 
-// Adds the sections of a column, whose rows are put in their order.
+// Adds the sections of a column. Its ids are put in the order of the rows into a list that is used
+// again.
 fn push_column(
     alloc: Global,
     column: &CodedColumn,
     order: &RowOrder,
     indexes: Indexes,
+    ids: &mut Vec<u32>,
     sections: &mut Sections,
 ) -> Result<(), NoMemory>
     requires { MayPush column.now order.now indexes }
     ensures { OnOk result (sections.new ≡ with_column (dictionary_of_ids column.now)
-        (arranged 0 order.now column.now.ids.items) indexes sections.old) }
+        (arranged 0 order.now column.now.ids) indexes sections.old) }
 {
-    let dictionary = column.values.dictionary();
-    let ids = column.ids.as_slice();
+    put_ordered(&column.ids, order, ids)?;
+    sections.push(alloc, column.values.dictionary(), ids.as_slice(), indexes)
+}
+
+// Puts the ids of a column in the order of the rows into a list, in place of what it has.
+fn put_ordered(column: &RowIds, order: &RowOrder, ids: &mut Vec<u32>) -> Result<(), NoMemory>
+    requires { AreBelow (length column.now) (places_in order.now) }
+    ensures { OnOk result (ids.new.items ≡ arranged 0 order.now column.now) }
+{
     match order {
-        RowOrder::AsGiven => sections.push(alloc, dictionary, ids, indexes),
-        RowOrder::ByPlaces(places) => {
-            let ids = gathered(alloc, places.as_slice(), ids)?;
-            sections.push(alloc, dictionary, ids.as_slice(), indexes)
-        }
+        RowOrder::AsGiven => column.put_all(ids),
+        RowOrder::ByPlaces(places) => column.put_at(places.as_slice(), ids),
     }
 }
 

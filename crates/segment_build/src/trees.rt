@@ -113,10 +113,8 @@ fn split_ids(alloc: Global, coded: &CodedColumns, split: &[u16]) -> Result<Seq<S
 {
     let mut all = Vec::with_capacity(alloc, split.len())?;
     for column in split {
-        let ids = coded.columns[*column as usize]
-            .ids
-            .as_slice()
-            .to_vec(alloc)?;
+        let mut ids = Vec::new(alloc);
+        coded.columns[*column as usize].ids.put_all(&mut ids)?;
         all.push(Seq::from_vec(ids))?;
     }
     Ok(Seq::from_vec(all))

@@ -12,3 +12,4 @@ pub mod SaidRows
 pub mod ImageOrPart
 pub mod Finds
 pub mod SpelledText
+pub mod Once

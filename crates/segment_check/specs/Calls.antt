@@ -8,7 +8,7 @@ use Rattle.table_schema.specs.declared.table.Table.{Table}
 use Rattle.segment_file.specs.declared.fault.HeadFault.{HeadFault}
 use Rattle.segment_file.specs.declared.fault.HeadFault.TheVariants.{NotASegment, ReadFault}
 use Rattle.segment_file.specs.declared.part.Part.{Part}
-use Rattle.segment_build.specs.FileReads.{LogsFile}
+use Rattle.segment_build.specs.FileReads.{LogsAtMost, LogsFile}
 use Rattle.segment_build.specs.Growing.{TreesFit}
 use Rattle.segment_check.specs.Checked.{IsImageOf, IsNoImage, Spells, SpellsNone}
 
@@ -16,8 +16,8 @@ use Rattle.segment_check.specs.Checked.{IsImageOf, IsNoImage, Spells, SpellsNone
 abbrev pub OfBytes : Option Files → List ℕ → (List ℕ → Type 0) → Type 0
 OfBytes held file P = IfSome held (λ files. P (bytes_of (Some files) file))
 
--- a file was looked at whole, and no other: it is the image of the rows that are answered, of which
--- no star-tree is too large, or of none
+-- a file was looked at whole, no byte of it more than twice, and no other: it is the image of the
+-- rows that are answered, of which no star-tree is too large, or of none
 pub record ChecksImage {A : Type 0} (rows_in : A → List (List Value)) (table : Table)
     (name file : List ℕ) (old new : Seen) (result : Result A HeadFault) : Type 0 where
   pub rows : IfOk result (λ a. AreRows table.schema.fields (rows_in a))
@@ -28,6 +28,7 @@ pub record ChecksImage {A : Type 0} (rows_in : A → List (List Value)) (table :
       → OfBytes old.held file (λ bytes. IsNoImage table name bytes p))
   pub only_reads : OnlyReads (IsErrOf result ReadFault) old new
   pub log : LogsFile file old.log new.log
+  pub twice : LogsAtMost 2 file old.log new.log
 
 -- the same, where it is answered how many rows there are
 pub record CountsImage (table : Table) (name file : List ℕ) (old new : Seen)
@@ -36,8 +37,8 @@ pub record CountsImage (table : Table) (name file : List ℕ) (old new : Seen)
   pub checks : ChecksImage (λ n. rows) table name file old new result
   pub count : IfOk result (λ n. n ≡ length rows)
 
--- the head and the ids of a file were looked at, and no other file: it spells rows of which the
--- answer is, or none
+-- the head and the ids of a file were looked at, no byte of it twice, and no other file: it spells
+-- rows of which the answer is, or none
 pub record SpellsFile {A : Type 0} (IsOf : A → List (List Value) → Type 0) (table : Table)
     (name file : List ℕ) (old new : Seen) (result : Result A HeadFault) : Type 0 where
   pub spells : IfOk result (λ a. OfBytes old.held file (λ bytes.
@@ -46,3 +47,4 @@ pub record SpellsFile {A : Type 0} (IsOf : A → List (List Value) → Type 0) (
       → OfBytes old.held file (λ bytes. SpellsNone table name bytes p))
   pub only_reads : OnlyReads (IsErrOf result ReadFault) old new
   pub log : LogsFile file old.log new.log
+  pub once : LogsAtMost 1 file old.log new.log

@@ -13,11 +13,13 @@ use Rattle.segment_file.specs.declared.part.Part.{Part}
 use Rattle.segment_file.specs.declared.part.Part.TheVariants as parts
 use Rattle.segment_head.specs.Heads.{AreIn, Seen}
 use Rattle.segment_build.specs.FileReads.{LogsFile}
-use Rattle.segment_check.specs.Reading.{AreColumns, FailsColumn, HasIdsOf, IsColumn}
+use Rattle.segment_check.specs.Reading.{AreColumns, FailsColumn, HasIdsOf, IsColumn, LogsColumns}
 
 -- a column was read by its ids, or its forward index has no such ids
 pub record ReadsCodedColumn (head : Seen) (column : ℕ) (old new : outside.Seen)
     (result : Result CodedColumn HeadFault) : Type 0 where
+  pub own : IfOk result (λ c.
+      slice_get head.dictionaries column ≡ Some (Some c.dictionary.now))
   pub coded : IfOk result (IsCodedColumn head.rows)
   pub column_is : IfOk result (λ c. (d : Distinct)
       → slice_get head.dictionaries column ≡ Some (Some d)
@@ -38,3 +40,4 @@ pub record ReadsCoded {A : Type 0} (columns_in : A → List CodedColumn) (table 
       → (column : ℕ) × (p ≡ parts.Forward column) × FailsColumn table old.held head column)
   pub only_reads : OnlyReads (IsErrOf result ReadFault) old new
   pub log : (file : List ℕ) → AreIn file head.sections → LogsFile file old.log new.log
+  pub once : LogsColumns table head old.log new.log

@@ -19,7 +19,7 @@ use Rattle.segment_build.specs.declared.coded.CodedColumns.{CodedColumns}
 use Rattle.segment_build.specs.Coded.{AreCoded, IsCoding, columns_in, dictionary_of_ids, row_values}
 use Rattle.segment_build.specs.FileReads.{LogsFile}
 use Rattle.segment_check.specs.declared.head.FileHead.{FileHead}
-use Rattle.segment_check.specs.Reading.{AreColumns, AreOfFields, FailsColumn, HasIdsOf, IsColumn, IsSomeHead}
+use Rattle.segment_check.specs.Reading.{AreColumns, AreOfFields, FailsColumn, HasIdsOf, IsColumn, IsSomeHead, LogsColumns}
 
 -- each id below a number is one of these
 abbrev pub HaveAll : ℕ → List ℕ → Type 0
@@ -28,22 +28,6 @@ HaveAll count ids = (id : ℕ) → id < count → Contains ids id
 -- from one place up to another all have a mark
 abbrev pub AreMarked : List Bool → ℕ → ℕ → Type 0
 AreMarked marks from to = (at : ℕ) → from ≤ at → at < to → get_or marks at false ≡ true
-
--- the ids of the rows in a column were read, or its forward index has none for some row
-pub record ReadsIds (head : Seen) (column : ℕ) (old new : outside.Seen)
-    (result : Result (Vec ℕ Global) HeadFault) : Type 0 where
-  pub count : IfOk result (λ ids. length ids.items ≡ head.rows)
-  pub below : IfOk result (λ ids. (d : Distinct)
-      → slice_get head.dictionaries column ≡ Some (Some d)
-      → AreBelow (length d.values) ids.items)
-  pub column_is : IfOk result (λ ids. (d : Distinct)
-      → slice_get head.dictionaries column ≡ Some (Some d)
-      → IsColumn old.held head column d (values_at d.values ids.items))
-  pub refused : IfErr result (λ fault. (p : Part) → fault ≡ NotASegment p
-      → (p ≡ parts.Forward column) × ((d : Distinct)
-      → slice_get head.dictionaries column ≡ Some (Some d)
-      → IfSome old.held (λ files. ¬ HasIdsOf files head column (length d.values))))
-  pub only_reads : OnlyReads (IsErrOf result ReadFault) old new
 
 -- the values of a dictionary that rows with these ids have, and no others, with the rows' ids
 pub record CodesRows (kind : FieldKind) (d : Distinct) (ids : List ℕ) (c : CodedColumn)
@@ -78,6 +62,7 @@ pub record ReadsAllCodes (table : Table) (head : Seen) (old new : outside.Seen)
       → (column : ℕ) × (p ≡ parts.Forward column) × FailsColumn table old.held head column)
   pub only_reads : OnlyReads (IsErrOf result ReadFault) old new
   pub log : (file : List ℕ) → AreIn file head.sections → LogsFile file old.log new.log
+  pub once : LogsColumns table head old.log new.log
 
 -- the front of a file of the table, and columns of rows of it
 pub record MayCompare (table : Table) (name : List ℕ) (head : FileHead) (coded : CodedColumns)

@@ -1,7 +1,8 @@
 -- What is read of a file, a part after the other (inside the crate alone).
-use Rattle.std.specs.Prelude.{◌≡◌, ◌<◌, ◌⊎◌, ℕ, pos, List, [], length, take, get_or, slice_get, Option, Some, IfSome, false, Result, IfErr, IfOk, IsErrOf, OnOk}
+use Rattle.std.specs.Prelude.{◌≡◌, ◌+◌, ◌<◌, ◌⊎◌, ℕ, pos, List, [], length, take, get_or, slice_get, Option, Some, IfSome, false, Result, IfErr, IfOk, IsErrOf, OnOk}
 use Rattle.std.specs.List.{All}
 use Rattle.outside.specs.Files.{Files}
+use Rattle.outside.specs.Reads.{Entry}
 use Rattle.outside.specs.Seen as outside
 use Rattle.outside.specs.Seen.{OnlyReads}
 use Rattle.values.specs.Columns.{Counts, Listed, ListedColumns, rows_of}
@@ -17,14 +18,14 @@ use Rattle.segment_file.specs.declared.fault.HeadFault.{HeadFault}
 use Rattle.segment_file.specs.declared.fault.HeadFault.TheVariants.{NotASegment, ReadFault}
 use Rattle.segment_file.specs.declared.part.Part.{Part}
 use Rattle.segment_file.specs.declared.part.Part.TheVariants as parts
-use Rattle.segment_file.specs.Front.{Front, extents_of}
+use Rattle.segment_file.specs.Front.{Front, extents_of, head_end}
 use Rattle.segment_file.specs.Image.{image}
 use Rattle.segment_file.specs.Names.{IsSegmentName}
 use Rattle.segment_file.specs.Parts.{sections_of}
 use Rattle.segment_file.specs.Rules.{FailsAt, HasFront}
-use Rattle.segment_head.specs.Heads.{AreIn, IsHead, Seen, bytes_in, place_in}
+use Rattle.segment_head.specs.Heads.{AreIn, IsHead, IsPlaced, Seen, bytes_in, place_in}
 use Rattle.segment_build.specs.Compared.{DifferAt}
-use Rattle.segment_build.specs.FileReads.{LogsFile}
+use Rattle.segment_build.specs.FileReads.{LogsFile, LogsOnce}
 use Rattle.segment_build.specs.Growing.{IsTooLarge, TreesFit}
 use Rattle.segment_check.specs.Calls.{OfBytes}
 use Rattle.segment_check.specs.Checked.{part_at}
@@ -104,6 +105,22 @@ IsUnlike table name file held front rows p =
     × DifferAt (image 1 table name rows) bytes at
     × (p ≡ part_at (extents_of table name front) at)))
 
+-- the sections of a head that was read are where its front says
+pub record IsPlacedHead (table : Table) (name file : List ℕ) (read : FileHead) : Type 0 where
+  pub placed : IsPlaced table name file read.front read.head
+  pub each : length read.front.sizes ≡ length (sections_of table)
+
+-- the told log grew by reads of the file after its head, of no byte twice
+abbrev pub LogsColumns : Table → Seen → Option (List Entry) → Option (List Entry) → Type 0
+LogsColumns table head old new = (name file : List ℕ) (front : Front)
+    → IsPlaced table name file front head → length front.sizes ≡ length (sections_of table)
+    → (to : ℕ) × LogsOnce file (head_end table name front) to old new
+
+-- it grew by reads of the forward index of a column, of no byte twice
+abbrev pub LogsColumn : Seen → ℕ → Option (List Entry) → Option (List Entry) → Type 0
+LogsColumn head column old new = IfSome (place_in head.sections (parts.Forward column)) (λ place.
+    LogsOnce place.file place.offset (place.offset + place.length) old new)
+
 -- ---- what the calls promise
 
 -- the head of a file was read, or the part of the first rule that fails
@@ -115,8 +132,12 @@ pub record ReadsFileHead (table : Table) (name file : List ℕ) (old new : outsi
   pub refused : IfErr result (λ fault. (p : Part) → fault ≡ NotASegment p
       → OfBytes old.held file (λ bytes. FailsAt table name bytes p))
   pub placed : IfOk result (λ read. AreIn file read.head.sections)
+  pub placed_is : IfOk result (IsPlacedHead table name file)
   pub only_reads : OnlyReads (IsErrOf result ReadFault) old new
   pub log : LogsFile file old.log new.log
+  pub once : (to : ℕ) × LogsOnce file 0 to old.log new.log
+  pub once_head : IfOk result (λ read. LogsOnce file 0 (head_end table name read.front) old.log
+      new.log)
 
 -- a file with this front was compared with the image of rows, whose bytes it has from the first on
 pub record ComparesImage (table : Table) (name file : List ℕ) (front : Front)
@@ -129,3 +150,4 @@ pub record ComparesImage (table : Table) (name file : List ℕ) (front : Front)
       → IsUnlike table name file old.held front rows p)
   pub only_reads : OnlyReads (IsErrOf result ReadFault) old new
   pub log : LogsFile file old.log new.log
+  pub once : (to : ℕ) × LogsOnce file 0 to old.log new.log

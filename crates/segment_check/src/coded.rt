@@ -4,17 +4,17 @@ ghost use Rattle.outside.specs.Seen.{seen};
 ghost use Rattle.bit_column.specs.Column.{width_of};
 ghost use Rattle.bit_column.specs.Reading.{ReadsRange};
 ghost use Rattle.bit_column.specs.Sections.{AppendsRange};
-ghost use Rattle.csv_text.specs.Coded.{ids_of};
 ghost use Rattle.segment_file.specs.declared.part.Part.TheVariants as part;
 ghost use Rattle.segment_build.specs.FileReads.{LogsFile};
 ghost use Rattle.segment_head.specs.Heads.{AreIn, IsLoaded, place_in};
 ghost use Rattle.segment_check.specs.Coded.{ReadsCoded, ReadsCodedColumn};
-ghost use Rattle.segment_check.specs.Reading.{IsSomeHead};
+ghost use Rattle.segment_check.specs.Reading.{IsSomeHead, LogsColumn};
 
 use crate::head::FileHead;
 use bit_column::{ColumnFault, IdRange, Width, append_narrow, append_range, width_for};
-use csv_text::{CodedColumn, RowIds};
+use csv_text::CodedColumn;
 use outside::{NoMemory, Place, Shelf};
+use row_ids::RowIds;
 use segment_file::{HeadFault, Part};
 use segment_head::Head;
 use std::alloc::Global;
@@ -55,8 +55,8 @@ fn keep<'a>(column: CodedColumn<'a>, columns: &mut Vec<CodedColumn<'a>>) -> Resu
     Ok(())
 }
 
-// A column, whose values are those of its dictionary.
-fn read_coded_column<'a, S: Shelf>(
+/// A column, whose values are those of its dictionary.
+pub(crate) fn read_coded_column<'a, S: Shelf>(
     alloc: Global,
     shelf: &mut S,
     head: &'a Head,
@@ -68,6 +68,7 @@ fn read_coded_column<'a, S: Shelf>(
         (seen S.Shelf shelf.old) (seen S.Shelf shelf.new) result }
     ensures log { (file : List ℕ) → AreIn file head.now.sections
         → LogsFile file (S.log shelf.old) (S.log shelf.new) }
+    ensures once { LogsColumn head.now column (S.log shelf.old) (S.log shelf.new) }
 {
     let Some(place) = head.place(Part::Forward(column)) else {
         unreachable!();
@@ -90,7 +91,7 @@ fn read_ids<S: Shelf>(
     rows: u32,
 ) -> Result<RowIds, ColumnFault>
     ensures ids { IfOk result (λ ids. AppendsRange (S.held shelf.old) place.now
-        (width_of count) count 0 rows [] (ids_of ids)) }
+        (width_of count) count 0 rows [] ids) }
     ensures reads { ReadsRange result place.now (width_of count) count 0 rows
         (seen S.Shelf shelf.old) (seen S.Shelf shelf.new) }
 {
@@ -106,13 +107,13 @@ fn read_ids<S: Shelf>(
     if range.width.bits <= 16 {
         let mut ids = Vec::new(alloc);
         return match append_narrow(alloc, shelf, place, range, &mut buffer, &mut ids) {
-            Ok(()) => Ok(RowIds::Narrow(ids)),
+            Ok(()) => Ok(RowIds::from_narrow(ids)),
             Err(fault) => Err(fault),
         };
     }
     let mut ids = Vec::new(alloc);
     match append_range(alloc, shelf, place, range, &mut buffer, &mut ids) {
-        Ok(()) => Ok(RowIds::Wide(ids)),
+        Ok(()) => Ok(RowIds::from_wide(ids)),
         Err(fault) => Err(fault),
     }
 }

@@ -10,17 +10,18 @@ ghost use Rattle.table_schema.specs.declared.table.Table.{Table};
 ghost use Rattle.segment_build.specs.Coded.{AreCoded, columns_in};
 ghost use Rattle.segment_build.specs.FileReads.{LogsFile};
 ghost use Rattle.segment_head.specs.Heads.{AreIn, IsLoaded, place_in};
-ghost use Rattle.segment_check.specs.Codes.{AreMarked, CodesRows, HaveAll, ReadsAllCodes, ReadsCodes, ReadsIds};
-ghost use Rattle.segment_check.specs.Reading.{IsSomeHead};
+ghost use Rattle.segment_check.specs.Codes.{AreMarked, CodesRows, HaveAll, ReadsAllCodes, ReadsCodes};
+ghost use Rattle.segment_check.specs.Reading.{IsSomeHead, LogsColumn};
 
+use crate::coded::read_coded_column;
 use crate::columns::column_of;
 use crate::head::FileHead;
-use bit_column::{ColumnFault, read_range, width_for};
 use data_types::FieldKind;
 use dictionary::Dictionary;
 use outside::{NoMemory, Shelf};
+use row_ids::RowIds;
 use segment_build::{CodedColumn, CodedColumns, ColumnValues};
-use segment_file::{HeadFault, Part};
+use segment_file::HeadFault;
 use segment_head::Head;
 use std::alloc::Global;
 use table_schema::Table;
@@ -78,37 +79,11 @@ fn read_column_codes<'a, S: Shelf>(
         (seen S.Shelf shelf.old) (seen S.Shelf shelf.new) result }
     ensures log { (file : List ℕ) → AreIn file head.now.sections
         → LogsFile file (S.log shelf.old) (S.log shelf.new) }
+    ensures once { LogsColumn head.now column (S.log shelf.old) (S.log shelf.new) }
 {
-    match read_ids(alloc, shelf, head, column) {
-        Ok(ids) => Ok(codes_of(alloc, kind, head.dictionary(column), ids)?),
+    match read_coded_column(alloc, shelf, head, column) {
+        Ok(read) => Ok(codes_of(alloc, kind, read.dictionary, read.ids)?),
         Err(fault) => Err(fault),
-    }
-}
-
-// The ids of the rows in a column.
-fn read_ids<S: Shelf>(
-    alloc: Global,
-    shelf: &mut S,
-    head: &Head,
-    column: u16,
-) -> Result<Vec<u32>, HeadFault>
-    requires loaded { IsLoaded head.now column }
-    requires placed { IsSome (place_in head.now.sections (part.Forward column)) }
-    ensures reads { ReadsIds head.now column
-        (seen S.Shelf shelf.old) (seen S.Shelf shelf.new) result }
-    ensures log { (file : List ℕ) → AreIn file head.now.sections
-        → LogsFile file (S.log shelf.old) (S.log shelf.new) }
-{
-    let Some(place) = head.place(Part::Forward(column)) else {
-        unreachable!();
-    };
-    let count = head.dictionary(column).count();
-    let width = width_for(count);
-    match read_range(alloc, shelf, place, width, count, 0, head.rows()) {
-        Ok(ids) => Ok(ids.into_vec()),
-        Err(ColumnFault::BadId) => Err(HeadFault::NotASegment(Part::Forward(column))),
-        Err(ColumnFault::ReadFault) => Err(HeadFault::ReadFault),
-        Err(ColumnFault::NoMemory) => Err(HeadFault::NoMemory),
     }
 }
 
@@ -117,35 +92,36 @@ fn codes_of<'a>(
     alloc: Global,
     kind: FieldKind,
     dictionary: &'a Dictionary,
-    ids: Vec<u32>,
+    ids: RowIds,
 ) -> Result<CodedColumn<'a>, NoMemory>
     requires kind { dictionary.now.kind ≡ kind }
-    requires below { AreBelow (length dictionary.now.values) ids.items }
-    requires at_most { length ids.items ≤ 1048576 }
-    ensures { IfOk result (CodesRows kind dictionary.now ids.items) }
+    requires below { AreBelow (length dictionary.now.values) ids }
+    requires at_most { length ids ≤ 1048576 }
+    ensures { IfOk result (CodesRows kind dictionary.now ids) }
 {
-    if have_all(alloc, ids.as_slice(), dictionary.count())? {
+    if have_all(alloc, &ids, dictionary.count())? {
         let values = ColumnValues::Lent(dictionary);
         return Ok(CodedColumn { values, ids });
     }
-    let column = column_of(alloc, kind, dictionary, ids.as_slice())?;
+    let column = column_of(alloc, kind, dictionary, &ids)?;
     let (own, ids) = Dictionary::of_column(alloc, kind, &column)?;
+    let ids = RowIds::of(alloc, ids, own.count())?;
     let values = ColumnValues::Own(own);
     Ok(CodedColumn { values, ids })
 }
 
 // Whether each id below a number is one of these. They are looked at as far as the last that is
 // found first.
-fn have_all(alloc: Global, ids: &[u32], count: u32) -> Result<bool, NoMemory>
+fn have_all(alloc: Global, ids: &RowIds, count: u32) -> Result<bool, NoMemory>
     requires { AreBelow count ids.now }
     ensures { IfOk result (λ all. all ≡ true → HaveAll count ids.now) }
 {
     let mut marks = vec![in alloc; false; count as usize]?;
     let mut next = 0;
-    'ids: for id in ids {
-        let at = *id as usize;
-        marks[at] = true;
-        if at == next {
+    'ids: for row in 0..ids.len() {
+        let place = ids.at(row) as usize;
+        marks[place] = true;
+        if place == next {
             next = first_unmarked(&marks, next);
             if next == count as usize {
                 return Ok(true);
@@ -181,7 +157,7 @@ pub(crate) fn decoded_columns(alloc: Global, coded: &CodedColumns) -> Result<Col
         let dictionary = column.values.dictionary();
         let _count = dictionary.count();
         let kind = dictionary.kind();
-        columns.push(column_of(alloc, kind, dictionary, column.ids.as_slice())?)?;
+        columns.push(column_of(alloc, kind, dictionary, &column.ids)?)?;
     }
     Ok(Columns::new(columns, coded.rows as usize))
 }

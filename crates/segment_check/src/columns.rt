@@ -9,6 +9,7 @@ ghost use Rattle.values.specs.declared.value.Value.TheVariants as value;
 use data_types::FieldKind;
 use dictionary::Dictionary;
 use outside::NoMemory;
+use row_ids::RowIds;
 use std::alloc::Global;
 use values::{Column, Value};
 
@@ -17,7 +18,7 @@ pub(crate) fn column_of(
     alloc: Global,
     kind: FieldKind,
     dictionary: &Dictionary,
-    ids: &[u32],
+    ids: &RowIds,
 ) -> Result<Column, NoMemory>
     requires kind { dictionary.now.kind ≡ kind }
     requires stands { IsDictionary dictionary.now }
@@ -26,8 +27,8 @@ pub(crate) fn column_of(
 {
     let mut column = empty_column(alloc, kind);
     column.reserve(ids.len())?;
-    'ids: for id in ids {
-        push_value(alloc, dictionary, *id, &mut column)?;
+    'ids: for row in 0..ids.len() {
+        push_value(alloc, dictionary, ids.at(row), &mut column)?;
     }
     Ok(column)
 }

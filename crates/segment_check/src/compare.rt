@@ -1,5 +1,5 @@
 //! A file is compared with the image of rows.
-ghost use Rattle.std.specs.Prelude.{◌≡◌, ◌<◌, ◌+◌, ◌^◌, IfErr, IfOk, IsErrOf, MatchOption, length, sum, take};
+ghost use Rattle.std.specs.Prelude.{◌≡◌, ◌<◌, ℕ, ◌+◌, ◌^◌, IfErr, IfOk, IsErrOf, MatchOption, length, sum, take};
 ghost use Rattle.outside.specs.Seen.{OnlyReads, seen};
 ghost use Rattle.values.specs.Columns.{rows_of};
 ghost use Rattle.segment_file.specs.declared.fault.HeadFault.TheVariants.{NotASegment};
@@ -7,7 +7,7 @@ ghost use Rattle.segment_file.specs.declared.part.Part.{Part};
 ghost use Rattle.segment_file.specs.Front.{extents_from};
 ghost use Rattle.segment_build.specs.Coded.{columns_in};
 ghost use Rattle.segment_build.specs.Compared.{DifferAt};
-ghost use Rattle.segment_build.specs.FileReads.{LogsFile};
+ghost use Rattle.segment_build.specs.FileReads.{LogsFile, LogsOnce};
 ghost use Rattle.segment_build.specs.Made.{file_bytes};
 ghost use Rattle.segment_check.specs.Calls.{OfBytes};
 ghost use Rattle.segment_check.specs.Checked as spec;
@@ -70,6 +70,7 @@ fn first_difference<S: Shelf>(
     ensures only_reads { OnlyReads (IsErrOf result HeadFault.ReadFault)
         (seen S.Shelf shelf.old) (seen S.Shelf shelf.new) }
     ensures log { LogsFile file.now (S.log shelf.old) (S.log shelf.new) }
+    ensures once { (to : ℕ) × LogsOnce file.now 0 to (S.log shelf.old) (S.log shelf.new) }
 {
     let mut comparing = Comparing::with_file(alloc, file)?;
     match made.give(alloc, &mut comparing, shelf) {

@@ -1,5 +1,5 @@
 -- The head of a segment's file, and dictionaries that are loaded into it.
-use Rattle.std.proofs.Common.{◌≡◌, ◌≢◌, ◌∙◌, ◌≤◌, ◌<◌, ◌+◌, ◌==◌, ◌⊎◌, ℕ, zero, suc, Bool, true, false, List, [], ◌∷◌, length, map, get_or, slice_get, slice_index_or, Option, Some, None, IfSome, refl, sym, ap, subst, arith, ◌-◌, Result, Ok, Err}
+use Rattle.std.proofs.Common.{◌≡◌, ◌≢◌, ◌∙◌, ◌≤◌, ◌<◌, ◌+◌, ◌==◌, ◌⊎◌, ℕ, Bool, true, false, List, [], length, map, get_or, slice_get, slice_index_or, Option, Some, None, IfSome, refl, sym, ap, subst, arith, Result, Ok, Err}
 use Rattle.std.proofs.lemmas.Bool.{eq-eqb, eqb-true, false≢true}
 use Rattle.std.proofs.lemmas.Option.{get_or_from_slice_get}
 use Rattle.outside.specs.Files.{EndsBefore, Files, bytes_at, bytes_of}
@@ -34,7 +34,7 @@ use Rattle.segment_opening.specs.Calls.{FailsColumn, HasOpeningIn, IsOpened}
 use Rattle.segment_opening.specs.Opened.{Grows, IsHeadIn, IsSpreadIn}
 use Rattle.segment_reads.proofs.LogLemmas.{ends_still, through_ends}
 use Rattle.std.specs.Prelude.{OnOk}
-use Rattle.segment_head.proofs.SectionLemmas.{if_some, rows_few, section_at}
+use Rattle.segment_head.proofs.SectionLemmas.{if_some, section_at}
 
 pub ok_so : {T E : Type 0} (r : Result T E) (A B : Type 0) → (A → B) → OnOk r A → OnOk r B
 ok_so (Ok t) A B f h = f h

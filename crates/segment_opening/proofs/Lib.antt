@@ -1,3 +1,4 @@
 pub mod HeadLemmas
 pub mod NamedLemmas
 pub mod EmptyLemmas
+mod LoadLemmas

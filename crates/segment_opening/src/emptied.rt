@@ -75,8 +75,8 @@ fn matches_none<S: Shelf>(
     }
 }
 
-// Whether the dictionary of a column is worth being looked up.
-fn is_large(head: &Head, column: u16) -> bool {
+/// Whether the dictionary of a column is worth being looked up.
+pub(crate) fn is_large(head: &Head, column: u16) -> bool {
     match head.place(Part::Dictionary(column)) {
         Some(place) => place.length > SMALL,
         None => false,

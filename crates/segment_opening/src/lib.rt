@@ -5,6 +5,7 @@
 mod emptied;
 mod loading;
 mod opening;
+mod small;
 mod wanted;
 
 pub use loading::{load_detailed, load_unless_emptied};

@@ -1,7 +1,7 @@
 //! The dictionaries of a segment that a query wants are loaded.
 ghost use Rattle.std.specs.Prelude.{◌≡◌, ◌<◌, true, false, IfOk, IfSome, ℕ, OnOk, get_or, length};
 ghost use Rattle.outside.specs.Seen.{seen};
-ghost use Rattle.segment_head.specs.Heads.{IsHeadOf, IsLoaded};
+ghost use Rattle.segment_head.specs.Heads.{IsHeadOf, IsLoaded, IsPartOf, OfWhole};
 ghost use Rattle.segment_plan.specs.Matched.{AreLoaded};
 ghost use Rattle.table_schema.specs.ValidTable.{IsValidTable};
 ghost use Rattle.segment_opening.specs.Calls.{HasWanted, IsQueryOnHead, LoadsMore};
@@ -9,6 +9,7 @@ ghost use Rattle.segment_opening.specs.Emptied.{IsEmptied};
 ghost use Rattle.segment_opening.specs.Wanted.{AreFactorsLoaded};
 
 use crate::emptied::is_emptied;
+use crate::small::is_emptied_by_small;
 use crate::wanted::{detailed_columns, wanted_columns};
 use outside::Shelf;
 use segment_head::{EngineFault, Head, engine_fault};
@@ -16,7 +17,7 @@ use std::alloc::Global;
 use table_schema::{BoundQuery, Table};
 
 /// Loads the dictionaries that the answer of a segment wants, unless a conjunct is known to match
-/// no value of its column: then none is loaded. Answers whether they were loaded.
+/// no value of its column: then no large one is loaded. Answers whether they were loaded.
 pub fn load_unless_emptied<S: Shelf>(
     alloc: Global,
     shelf: &mut S,
@@ -36,6 +37,34 @@ pub fn load_unless_emptied<S: Shelf>(
     match is_emptied(alloc, shelf, table, query, head) {
         Ok(true) => return Ok(false),
         Ok(false) => {}
+        Err(fault) => return Err(fault),
+    }
+    load_unless_small(alloc, shelf, table, query, by_tree, head)
+}
+
+// The same by small dictionaries, which are loaded before large ones.
+fn load_unless_small<S: Shelf>(
+    alloc: Global,
+    shelf: &mut S,
+    table: &Table,
+    query: &BoundQuery,
+    by_tree: bool,
+    head: &mut Head,
+) -> Result<bool, EngineFault>
+    requires { IsQueryOnHead query.now table.now head.old }
+    ensures loads { LoadsMore table.now result head.old head.new
+        (seen S.Shelf shelf.old) (seen S.Shelf shelf.new) }
+    ensures wanted { IfOk result (λ loaded. loaded ≡ true →
+        HasWanted query.now by_tree head.new) }
+    ensures emptied { IfOk result (λ loaded. loaded ≡ false →
+        IsEmptied query.now table.now (S.held shelf.old) head.old) }
+{
+    match is_emptied_by_small(alloc, shelf, table, query, head) {
+        Ok(emptied) => {
+            if emptied {
+                return Ok(false);
+            }
+        }
         Err(fault) => return Err(fault),
     }
     match load_wanted(alloc, shelf, table, query, by_tree, head) {
@@ -129,6 +158,25 @@ fn load_if<S: Shelf>(
     if !marked {
         return Ok(());
     }
+    load_one(alloc, shelf, table, column, head)
+}
+
+/// Loads the dictionary of one column.
+pub(crate) fn load_one<S: Shelf>(
+    alloc: Global,
+    shelf: &mut S,
+    table: &Table,
+    column: u16,
+    head: &mut Head,
+) -> Result<(), EngineFault>
+    requires of_table { IsHeadOf table.now head.old }
+    requires column { column < length table.now.schema.fields }
+    ensures loads { LoadsMore table.now result head.old head.new
+        (seen S.Shelf shelf.old) (seen S.Shelf shelf.new) }
+    ensures loaded { OnOk result (IsLoaded head.new column) }
+    ensures part { OnOk result (OfWhole table.now (S.held shelf.old) head.old
+        (λ whole. IsPartOf whole head.new)) }
+{
     match head.load_dictionary(alloc, shelf, table, column) {
         Ok(()) => Ok(()),
         Err(fault) => Err(engine_fault(fault)),

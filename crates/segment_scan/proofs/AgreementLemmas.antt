@@ -1,9 +1,8 @@
 -- Rows that agree in the columns that a query names are the same to it.
-use Rattle.std.proofs.Common.{◌≡◌, ◌∙◌, ◌<◌, ◌==◌, ◌||◌, ◌&&◌, ◌++◌, ◌∷◌, [], ℕ, pos, Bool, true, false, cond, Option, Some, None, List, map, refl, sym, ap, subst, eq-eqb}
+use Rattle.std.proofs.Common.{◌≡◌, ◌∙◌, ◌==◌, ◌||◌, ◌&&◌, ◌∷◌, [], ℕ, pos, Bool, true, false, cond, Option, Some, None, List, map, refl, sym, ap, subst, eq-eqb}
 use Rattle.std.specs.List.{filter, list_any}
 use Rattle.std.specs.Option.{option_map_or}
 use Rattle.std.specs.Ordering.{eq_by_cmp}
-use Rattle.std.specs.FinMap as finite
 use Rattle.values.specs.declared.value.Value.{Value}
 use Rattle.values.specs.Tests.{all_true, any_true, holds}
 use Rattle.agg_laws.specs.States.{state_of}
@@ -16,7 +15,9 @@ use Rattle.table_schema.specs.declared.query.Wide.TheOpen.{Wide-F}
 use Rattle.table_schema.specs.declared.query.Wide.TheFolds.{fold-roll-Wide, ind-Wide, map-Wide}
 use Rattle.table_schema.specs.declared.query.Wide.TheViews.{roll-Wide}
 use Rattle.table_schema.specs.Conditions.{all_hold, cell, conjunct_holds, wide_holds, wide_step}
-use Rattle.group_table.specs.Groups.{Groups, groups_of, has_key, key_of, key_order, keys_of, number_for, number_of, states_of}
+use Rattle.group_table.specs.Groups.{has_key, key_of, key_order, number_for, number_of, some_states, states_for, states_of}
+use Rattle.group_table.specs.Kept.{groups_in}
+use Rattle.group_table.proofs.GroupsLemmas.{alike_adds}
 use Rattle.group_table.specs.Shape.{shape_of}
 use Rattle.scan_engine.specs.Scanned.{selected}
 use Rattle.segment_scan.specs.Agreement.{Agree, AgreeAll, AgreeingAreSame}
@@ -109,10 +110,6 @@ module _ (named : ℕ → Bool) where
       go more false true e = absurd cc
       go more false false e = more
 
-  agreeing_after : (done rows others : List (List Value)) → AgreeAll named rows others → AgreeAll named (done ++ rows) (done ++ others)
-  agreeing_after [] rows others zip = zip
-  agreeing_after (d ∷ ds) rows others zip = (λ column is. refl, agreeing_after ds rows others zip)
-
   mapped : {X : Type 0} (f : List Value → X) → ((row other : List Value) → Agree named row other → f row ≡ f other) → (rows others : List (List Value)) → AgreeAll named rows others → map f rows ≡ map f others
   mapped f alike [] [] zip = refl
   mapped f alike [] (o ∷ os) zip = absurd zip
@@ -130,18 +127,20 @@ module _ (named : ℕ → Bool) where
       let more : states_of aggs rows ≡ states_of aggs others = states_alike aggs (λ column is. within column (or_right (agg_names column a) (list_any (agg_names column) aggs) is)) rows others zip in
       (λ i. state_of a.kind (here i) ∷ more i)
 
+  some_alike : (aggs : List Agg) → ((column : ℕ) → list_any (agg_names column) aggs ≡ true → named column ≡ true) → (rows others : List (List Value)) → AgreeAll named rows others → some_states aggs rows ≡ some_states aggs others
+  some_alike aggs within [] [] zip = refl
+  some_alike aggs within [] (o ∷ os) zip = absurd zip
+  some_alike aggs within (r ∷ rs) [] zip = absurd zip
+  some_alike aggs within (r ∷ rs) (o ∷ os) zip = ap Some (states_alike aggs within (r ∷ rs) (o ∷ os) zip)
+
   module _ (groups : List ℕ) (aggs : List Agg) (groups_within : (column : ℕ) → is_in groups column ≡ true → named column ≡ true) (aggs_within : (column : ℕ) → list_any (agg_names column) aggs ≡ true → named column ≡ true) where
     key_alike : (row other : List Value) → Agree named row other → key_of groups row ≡ key_of groups other
     key_alike row other agree = keys_alike row other groups (λ column is. agree column (groups_within column is))
 
-    group_alike : (rows others : List (List Value)) → AgreeAll named rows others → (key : List Value) → states_of aggs (filter (has_key groups key) rows) ≡ states_of aggs (filter (has_key groups key) others)
+    group_alike : (rows others : List (List Value)) → AgreeAll named rows others → (key : List Value) → some_states aggs (filter (has_key groups key) rows) ≡ some_states aggs (filter (has_key groups key) others)
     group_alike rows others zip key =
-        states_alike aggs aggs_within (filter (has_key groups key) rows) (filter (has_key groups key) others)
+        some_alike aggs aggs_within (filter (has_key groups key) rows) (filter (has_key groups key) others)
         (agreeing_kept (has_key groups key) (λ row other agree. ap (λ k. eq_by_cmp key_order key k) (key_alike row other agree)) rows others zip)
-
-  all_keys : (groups : List ℕ) → ((column : ℕ) → is_in groups column ≡ true → named column ≡ true) → (rows others : List (List Value)) → AgreeAll named rows others → keys_of groups rows ≡ keys_of groups others
-  all_keys [] within rows others zip = refl
-  all_keys (g ∷ gs) within rows others zip = mapped (key_of (g ∷ gs)) (λ row other agree. keys_alike row other (g ∷ gs) (λ column is. agree column (within column is))) rows others zip
 
 -- ---- a query
 
@@ -157,30 +156,23 @@ module _ (query : BoundQuery) where
   conjuncts_in_names column is =
       or_left (list_any (conjunct_names column) query.conjuncts || is_in query.groups column) (list_any (agg_names column) query.aggs) (or_left (list_any (conjunct_names column) query.conjuncts) (is_in query.groups column) is)
 
-  groups_alike : (rows others : List (List Value)) → AgreeAll (query_names query) rows others → groups_of (shape_of query) rows ≡ groups_of (shape_of query) others
-  groups_alike rows others zip =
-      let keys : keys_of query.groups rows ≡ keys_of query.groups others = all_keys (query_names query) query.groups groups_in_names rows others zip in
-      let states : (key : List Value) → states_of query.aggs (filter (has_key query.groups key) rows) ≡ states_of query.aggs (filter (has_key query.groups key) others) =
-      group_alike (query_names query) query.groups query.aggs groups_in_names aggs_in_names rows others zip in
-      (λ i. finite.from_entries (map (λ key. (key, states key i)) (keys i)))
-
   selected_alike : (rows others : List (List Value)) → AgreeAll (query_names query) rows others → AgreeAll (query_names query) (selected query rows) (selected query others)
   selected_alike rows others zip =
       agreeing_kept (query_names query) (λ row. all_hold row query.conjuncts)
       (λ row other agree. conjuncts_alike row other query.conjuncts (λ column is. agree column (conjuncts_in_names column is))) rows others zip
 
-  -- the groups of some rows and then of these
-  pub added_alike : (rows others : List (List Value)) → AgreeAll (query_names query) rows others → (done : List (List Value)) → groups_of (shape_of query) (done ++ selected query rows) ≡ groups_of (shape_of query) (done ++ selected query others)
-  added_alike rows others zip done =
-      groups_alike (done ++ selected query rows) (done ++ selected query others) (agreeing_after (query_names query) done (selected query rows) (selected query others) (selected_alike rows others zip))
+  -- and each key has the same aggregates of them
+  pub added_alike : (rows others : List (List Value)) → AgreeAll (query_names query) rows others → (key : List Value) → states_for (shape_of query) (selected query rows) key ≡ states_for (shape_of query) (selected query others) key
+  added_alike rows others zip key =
+      group_alike (query_names query) query.groups query.aggs groups_in_names aggs_in_names (selected query rows) (selected query others) (selected_alike rows others zip) key
 
 pub agreeing_same : AgreeingAreSame
 agreeing_same query rows others zip = record {
   adds = λ count old new adds. record {
     of_query = adds.of_query;
     most = adds.most;
-    groups = λ done is. adds.groups done is ∙ added_alike query rows others zip done;
+    groups = alike_adds (shape_of query) (selected query rows) (selected query others) (groups_in old) (groups_in new) (added_alike query rows others zip) adds.groups;
     fits = adds.fits;
   };
-  overfull = λ table over done is. subst (λ (g : Groups). table.most < finite.len g) (added_alike query rows others zip done) (over done is);
+  overfull = λ table over new adds. over new (alike_adds (shape_of query) (selected query others) (selected query rows) (groups_in table) new (λ key. sym (added_alike query rows others zip key)) adds);
 }

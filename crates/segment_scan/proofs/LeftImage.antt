@@ -1,13 +1,12 @@
 -- What a scan of the documents that indexes leave says of the image of rows.
-use Rattle.std.proofs.Common.{◌≡◌, ◌∙◌, ◌<◌, ◌≤◌, ◌+◌, ◌&&◌, ◌||◌, ◌++◌, ◌∷◌, [], ℕ, zero, suc, Bool, true, false, not, inl, inr, append_assoc, All, List, Option, Some, None, IfSome, length, map, get_or, slice_get, refl, sym, ap, subst, arith}
+use Rattle.std.proofs.Common.{◌≡◌, ◌∙◌, ◌<◌, ◌≤◌, ◌+◌, ◌&&◌, ◌||◌, ◌++◌, ◌∷◌, [], ℕ, zero, suc, Bool, true, false, not, inl, inr, All, List, Option, Some, None, IfSome, length, map, get_or, slice_get, refl, sym, ap, subst, arith}
 use Rattle.std.specs.Prelude.{if◌then◌else◌, IsPermutation}
 use Rattle.std.specs.List.{filter, list_all, list_any}
 use Rattle.std.specs.List.Sorted.{IsStrictlyIncreasing}
 use Rattle.std.proofs.lemmas.Bool.{false≢true}
 use Rattle.std.proofs.lemmas.List.{length-map}
 use Rattle.std.proofs.lemmas.List.Elements.{All-head, All-nil, All-tail}
-use Rattle.std.proofs.lemmas.List.Sorted.{IsPermutation-append_right}
-use Rattle.std.specs.FinMap as finite
+use Rattle.std.proofs.lemmas.List.Sorted.{IsPermutation-sym}
 use Rattle.outside.specs.Files.{Files}
 use Rattle.outside.specs.Reads.{Entry}
 use Rattle.values.specs.declared.value.Value.{Value}
@@ -22,13 +21,12 @@ use Rattle.table_schema.specs.declared.table.Table.{Table}
 use Rattle.table_schema.specs.ValidTable.{IsValidTable}
 use Rattle.table_schema.specs.Conditions.{all_hold, conjunct_holds}
 use Rattle.doc_lists.specs.Docs.{has_doc}
-use Rattle.group_table.proofs.GroupsLemmas.{same_permuted}
-use Rattle.group_table.specs.Groups.{Groups, groups_of}
-use Rattle.group_table.specs.Kept.{KeptGroups}
+use Rattle.group_table.proofs.GroupsLemmas.{permuted_adds as permuted_groups}
+use Rattle.group_table.specs.Kept.{KeptGroups, groups_in}
 use Rattle.group_table.specs.Shape.{shape_of}
 use Rattle.scan_engine.specs.Places.{rows_at}
 use Rattle.scan_engine.specs.Scanned.{AddsRows, IsOverfull, selected}
-use Rattle.scan_engine.proofs.AddLemmas.{adds_both, len_more}
+use Rattle.scan_engine.proofs.AddLemmas.{adds_both, overfull_more, overfull_past}
 use Rattle.scan_engine.proofs.RunLemmas.{adds_as_more}
 use Rattle.segment_file.specs.declared.part.Part.{Part}
 use Rattle.segment_file.specs.declared.part.Part.TheVariants.{Forward}
@@ -171,25 +169,12 @@ permuted_adds : (query : BoundQuery) (n m : ℕ) (xs ys : List (List Value)) (ol
 permuted_adds query n m xs ys old new same permuted by = subst (λ k. AddsRows query k xs old new) same (record {
   of_query = by.of_query;
   most = by.most;
-  groups = λ done so. by.groups done so ∙ same_permuted (shape_of query) (done ++ xs) (done ++ ys) (IsPermutation-append_right done xs ys permuted);
+  groups = permuted_groups (shape_of query) ys xs (groups_in old) (groups_in new) (IsPermutation-sym xs ys permuted) by.groups;
   fits = by.fits;
 })
 
 permuted_overfull : (query : BoundQuery) (xs ys : List (List Value)) (old : KeptGroups) → IsPermutation xs ys → IsOverfull query ys old → IsOverfull query xs old
-permuted_overfull query xs ys old permuted over = λ done so.
-    subst (λ (g : Groups). old.most < finite.len g) (same_permuted (shape_of query) (done ++ xs) (done ++ ys) (IsPermutation-append_right done xs ys permuted)) (over done so)
-
--- too many groups already are too many with more rows
-overfull_more : (query : BoundQuery) (xs ys : List (List Value)) (old : KeptGroups) → IsOverfull query xs old → IsOverfull query (xs ++ ys) old
-overfull_more query xs ys old over = λ done so.
-    let more = len_more (shape_of query) (done ++ xs) ys in
-    let here = over done so in
-    subst (λ l. old.most < finite.len (groups_of (shape_of query) l)) (append_assoc done xs ys) (omega (arith, more, here))
-
-overfull_next : (query : BoundQuery) (n : ℕ) (xs ys : List (List Value)) (old mid : KeptGroups) → AddsRows query n xs old mid → IsOverfull query ys mid → IsOverfull query (xs ++ ys) old
-overfull_next query n xs ys old mid by over = λ done so.
-    subst (λ l. old.most < finite.len (groups_of (shape_of query) l)) (append_assoc done xs ys)
-    (subst (λ m. m < finite.len (groups_of (shape_of query) ((done ++ xs) ++ ys))) by.most (over (done ++ xs) (by.groups done so)))
+permuted_overfull query xs ys old permuted over = λ new adds. over new (permuted_groups (shape_of query) xs ys (groups_in old) new permuted adds)
 
 module _ (law : ImagesRead) (leave : ImagesLeave) (query : BoundQuery) (table : Table) (head : Seen) (valid : IsValidTable table) (of_table : IsHeadOf table head) (loaded : AreNamedLoaded query head) (docs : List ℕ) where
   abbrev choices : List IndexChoice
@@ -303,9 +288,9 @@ module _ (law : ImagesRead) (leave : ImagesLeave) (query : BoundQuery) (table : 
       pub sure_overfull : (one : List (List Value)) (old mid : KeptGroups) → one ≡ selected_docs query choices files head (names_in rest table) check → AddsRows query (length check) one old mid
           → IsOverfull query (selected_docs query (sure_choices choices) files head (names_in others table) sure) mid → IsOverfull query (selected query os) old
       sure_overfull one old mid one_is first over =
+          let added = part_adds law query table head valid of_table loaded choices files rows of (length check) check check_within one old mid one_is first in
           permuted_overfull query (selected query os) (selected rest (map at_doc check) ++ selected others (map at_doc sure)) old permuted
-          (overfull_next query (length check) (selected rest (map at_doc check)) (selected others (map at_doc sure)) old mid
-          (part_adds law query table head valid of_table loaded choices files rows of (length check) check check_within one old mid one_is first)
+          (overfull_past query (selected rest (map at_doc check)) (selected others (map at_doc sure)) old mid added.groups added.most
           (part_overfull law query table head valid of_table loaded (sure_choices choices) files rows of sure sure_within mid over))
 
   -- both parts were added
@@ -345,7 +330,7 @@ module _ (law : ImagesRead) (leave : ImagesLeave) (query : BoundQuery) (table : 
     (
       one.rows ++ selected_docs query (sure_choices choices) files head (names_in others table) sure,
       inr (record { docs = docs; unsure = unsure; check = check; sure = sure; left = left; has = has; parts = parts; rows_are = ap (λ (l : List (List Value)). l ++ selected_docs query (sure_choices choices) files head (names_in others table) sure) one.told }),
-      overfull_next query (length check) one.rows (selected_docs query (sure_choices choices) files head (names_in others table) sure) old mid one.adds over,
+      overfull_past query one.rows (selected_docs query (sure_choices choices) files head (names_in others table) sure) old mid one.adds.groups one.adds.most over,
     ),
     λ rows of. sure_overfull files rows of left unsure check sure has parts one.rows old mid one.told one.adds over,
   )

@@ -16,8 +16,8 @@ Agree named row other = (column : ℕ) → named column ≡ true → cell row co
 abbrev pub AgreeAll : (ℕ → Bool) → List (List Value) → List (List Value) → Type 0
 AgreeAll named rows others = AllZip (Agree named) rows others
 
--- rows that agree in the columns that a query names satisfy its filter alike, and are the same
--- groups with whatever rows before them
+-- rows that agree in the columns that a query names satisfy its filter alike, and are added alike
+-- to whatever groups
 pub record AreSame (query : BoundQuery) (rows others : List (List Value)) : Type 0 where
   pub adds : (count : ℕ) (old new : KeptGroups) → AddsRows query count (selected query rows) old new
       → AddsRows query count (selected query others) old new

@@ -19,7 +19,7 @@ ghost use Rattle.segment_head.specs.declared.fault.EngineFault.TheVariants.{NotA
 use crate::answered::Answered;
 use crate::documents::scan_documents;
 use crate::laws::{image_law, index_law};
-use doc_lists::{DocList, meet, without};
+use doc_lists::{DocList, DocSet, parted};
 use group_table::{GroupTable, SlotPool};
 use outside::Shelf;
 use segment_head::EngineFault;
@@ -35,8 +35,8 @@ pub(crate) fn scan_left<S: Shelf>(
     shelf: &mut S,
     answered: &Answered<'_>,
     choices: &[IndexChoice],
-    docs: &DocList,
-    unsure: &DocList,
+    docs: &DocSet,
+    unsure: &DocSet,
     groups: &mut GroupTable,
     pool: &mut SlotPool,
 ) -> Result<u32, EngineFault>
@@ -70,8 +70,7 @@ pub(crate) fn scan_left<S: Shelf>(
 {
     image_law();
     index_law();
-    let check = meet(alloc, docs, unsure)?;
-    let sure = without(alloc, docs, unsure)?;
+    let (check, sure) = parted(alloc, docs, unsure)?;
     let served = sure_choices(alloc, choices)?;
     let served = served.as_slice();
     match scan_part(alloc, shelf, answered, choices, &check, groups, pool) {
@@ -79,7 +78,7 @@ pub(crate) fn scan_left<S: Shelf>(
         Err(fault) => return Err(fault),
     }
     match scan_part(alloc, shelf, answered, served, &sure, groups, pool) {
-        Ok(()) => Ok(docs.len() as u32),
+        Ok(()) => Ok((check.len() + sure.len()) as u32),
         Err(fault) => Err(fault),
     }
 }

@@ -15,7 +15,7 @@ use crate::answered::Answered;
 use crate::laws::{image_law, index_law};
 use crate::left::scan_left;
 use crate::whole::scan_whole;
-use doc_lists::DocList;
+use doc_lists::{DocList, DocSet};
 use group_table::{GroupTable, SlotPool};
 use index_filter::documents;
 use outside::Shelf;
@@ -65,7 +65,7 @@ pub fn scan_segment<S: Shelf>(
     index_law();
     let choices = plan.choices.as_slice();
     let conjuncts = query.conjuncts.as_slice();
-    let mut unsure = DocList::new(alloc);
+    let mut unsure = DocSet::of_list(DocList::new(alloc));
     let docs = match documents(alloc, shelf, head, conjuncts, choices, &mut unsure) {
         Ok(docs) => docs,
         Err(fault) => return Err(fault),

@@ -40,11 +40,12 @@ use Rattle.table_schema.specs.declared.query.Agg.{Agg}
 use Rattle.table_schema.specs.declared.query.BoundQuery.{BoundQuery}
 use Rattle.table_schema.specs.Columns.{is_member}
 use Rattle.table_schema.specs.Conditions.{all_hold, cell}
-use Rattle.group_table.specs.Groups.{Group, Groups, has_key, key_order, number_for}
+use Rattle.group_table.specs.Groups.{Adds, Groups, has_key, key_order, number_for}
+use Rattle.group_table.specs.Groups.{some_states}
 use Rattle.group_table.specs.Groups as table
 use Rattle.group_table.specs.Kept.{IsTableOf, KeptGroups, groups_in}
 use Rattle.group_table.specs.Shape.{shape_of}
-use Rattle.group_table.proofs.KeptLemmas.{key_same, key_total}
+use Rattle.group_table.proofs.GroupsLemmas.{one}
 use Rattle.scan_engine.specs.Scanned.{AddsRows, selected}
 use Rattle.scan_engine.specs.Scanned as scan
 use Rattle.star_reader.specs.declared.asked.Asked.{Asked}
@@ -61,7 +62,7 @@ use Rattle.star_answer.proofs.KeyedSteps.{entries_weight, picks_read, rows_light
 use Rattle.star_answer.proofs.HoldLemmas.{holds_same}
 use Rattle.star_answer.proofs.KeyLemmas.{AreGrouped, members, same_total}
 use Rattle.star_answer.proofs.PickedTotals.{HaveKinds, entries_total}
-use Rattle.star_answer.proofs.RowGroups.{groups_more, rows_total, some_states}
+use Rattle.star_answer.proofs.RowGroups.{rows_total}
 
 -- ---- the kinds of what is read
 
@@ -312,19 +313,15 @@ module _ (query : BoundQuery) (tree : TreePart) (task : Task) (asked : Asked) (f
       (filter (has_key query.groups q) (selected query rows))
       (λ i d lt. let h = ask.pairs i d lt in omega (arith, h, at_most)) s.of_query.aggs
 
-  -- the groups with the documents are those with the rows
-  groups_are : (read : List (List Doc)) → AreRead tree.shape.now tree.counts.now
+  -- the documents add the rows to any groups
+  documents_add : (read : List (List Doc)) → AreRead tree.shape.now tree.counts.now
       (section files tree.documents.now) (reads_of tree task) read → (old : Groups)
-      (done : List (List Value)) → old ≡ table.groups_of (shape_of query) done
-      → with_entries old (entries_of asked (selected_of tree task read))
-      ≡ table.groups_of (shape_of query) (done ++ selected query rows)
-  groups_are read are old done so =
-      finite.same_map key_total key_same
+      → Adds (shape_of query) (selected query rows) old
       (with_entries old (entries_of asked (selected_of tree task read)))
-      (table.groups_of (shape_of query) (done ++ selected query rows))
-      (λ q. entries_at old (entries_of asked (selected_of tree task read)) q
-      ∙ (λ i. join_some merged_rows (finite.get (so i) q) (states_are read are q i))
-      ∙ sym (groups_more (shape_of query) done (selected query rows) q))
+  documents_add read are old = record {
+    each = λ q. entries_at old (entries_of asked (selected_of tree task read)) q
+        ∙ ap (join_some merged_rows (finite.get old q)) (states_are read are q);
+  }
 
   pub served_adds : (old new : KeptGroups) → IsTableOf query old
       → Answers tree task asked (length rows) (Some files) old new
@@ -335,14 +332,19 @@ module _ (query : BoundQuery) (tree : TreePart) (task : Task) (asked : Asked) (f
       kinds = a.merged.kinds ∙ of_query.kinds;
     };
     most = a.merged.most;
-    groups = λ done so. a.merged.groups ∙ groups_are a.read a.told (groups_in old) done so;
+    groups = subst (λ g. Adds (shape_of query) (selected query rows) (groups_in old) g)
+        (sym a.merged.groups) (documents_add a.read a.told (groups_in old));
     fits = a.merged.fits;
   }
 
   pub served_over : (old : KeptGroups) → IsOverfull tree task asked (Some files) old
       → scan.IsOverfull query (selected query rows) old
-  served_over old o done so = subst (λ (g : Groups). old.most < finite.len g)
-      (groups_are o.read o.told (groups_in old) done so) o.over
+  served_over old o = λ new adds.
+      let entries = entries_of asked (selected_of tree task o.read) in
+      subst (λ (g : Groups). old.most < finite.len g)
+      (one (shape_of query) (selected query rows) (groups_in old)
+      (with_entries (groups_in old) entries) new
+      (documents_add o.read o.told (groups_in old)) adds) o.over
 
   -- nothing is refused
   module _ (ns : List (asks.Pick (List AggState)))

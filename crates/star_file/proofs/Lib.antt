@@ -7,3 +7,4 @@ pub mod DocLaws
 pub mod TreeDocs
 pub mod TreeLaws
 pub mod Ranges
+pub mod SpelledSteps

@@ -12,22 +12,22 @@ ghost use Rattle.star_file.specs.declared.docs_fault.DocsFault.TheVariants as Do
 use crate::doc_reading::{docs_from, width_of};
 use crate::docs_fault::DocsFault;
 use crate::part::read_part;
+use crate::spelled_docs::SpelledDocs;
 use agg_laws::TreeShape;
 use outside::{Place, Shelf};
-use star_table::StarTable;
 use std::alloc::Global;
 
 /// The documents of a section between two numbers, the second left out. It reads their bytes and no
 /// others, each once. A range without documents is there in any section, and reads nothing.
-pub fn read_docs<S: Shelf>(
+pub fn read_docs<'a, S: Shelf>(
     alloc: Global,
     shelf: &mut S,
     place: &Place,
-    shape: &TreeShape,
-    counts: &[u32],
+    shape: &'a TreeShape,
+    counts: &'a [u32],
     from: u32,
     to: u32,
-) -> Result<StarTable, DocsFault>
+) -> Result<SpelledDocs<'a>, DocsFault>
     requires { IsReadableRange shape.now counts.now from to }
     ensures docs { IfOk result (λ table. IfSome (S.held shelf.old) (λ files.
         HasDocuments shape.now counts.now from to (section files place.now) table.docs)) }
@@ -49,7 +49,7 @@ pub fn read_docs<S: Shelf>(
         docs → ⊥) }
 {
     if from == to {
-        return Ok(StarTable::new(alloc, shape)?);
+        return Ok(SpelledDocs::none(alloc, shape, counts));
     }
     let width = width_of(shape) as u64;
     let first = from as u64 * width;
@@ -61,5 +61,5 @@ pub fn read_docs<S: Shelf>(
         Ok(bytes) => bytes,
         Err(fault) => return Err(fault),
     };
-    docs_from(alloc, bytes.as_slice(), shape, counts, to - from)
+    docs_from(bytes, shape, counts, to - from)
 }

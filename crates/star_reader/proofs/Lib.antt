@@ -3,3 +3,5 @@ pub mod TakeSteps
 pub mod PassSteps
 pub mod FaultSteps
 pub mod ReadSteps
+pub mod TestSteps
+pub mod PartSteps

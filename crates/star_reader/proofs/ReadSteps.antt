@@ -27,6 +27,7 @@ use Rattle.star_reader.specs.Asked.{kinds_for}
 use Rattle.star_reader.specs.Answers.{AreRead, LogsPicks, LogsSome, TellsRead, asked_of, left_of}
 use Rattle.star_reader.specs.Answers.{passed}
 use Rattle.star_reader.specs.Selected.{AreKeyIds, ArePicked, IsSelected, MayBeSelected, selected_doc, selected_docs}
+use Rattle.star_reader.specs.Taken.{RefusesPart}
 use Rattle.star_reader.proofs.TakeSteps.{may_first}
 
 -- ---- documents pick by pick
@@ -225,12 +226,6 @@ module _ (tree : TreePart) (task : Task) (asked : Asked) (rows : ℕ) (ps : List
   read_partly last logs = step.partly last
       (subst (λ l. LogsSome tree l now.log last) (sym left_is) (inl logs))
 
-  -- a refusal after a read
-  pub read_whole : (last : Option (List Entry)) → LogsOn file from to now.log last
-      → LogsSome tree ps first.log last
-  read_whole last logs =
-      read_partly last (logs-up file from to to now.log last last (le_refl _) logs refl)
-
   -- no pick was read yet
   pub picked_next : (next : Seen) (new : Docs) (docs : List Doc) → OnlyReads ⊥ now next
       → LogsOn file from to now.log next.log
@@ -277,51 +272,28 @@ module _ (tree : TreePart) (task : Task) (asked : Asked) (rows : ℕ) (ps : List
       → AreRead tree.shape.now tree.counts.now (section files tree.documents.now) ps all
       → ¬ MayBeSelected asked.columns.now rows (selected_docs asked (passed (asked_of task) k ps all)))
 
-  -- the section has no documents of a pick
-  pub read_bad : IfSome now.held (λ files. (docs : List Doc) → HasDocuments tree.shape.now
-      tree.counts.now p.start p.end (section files tree.documents.now) docs → ⊥)
-      → IsBadIn first.held
-  read_bad bad = by first.held (subst (λ h. IfSome h (λ files. (docs : List Doc) → HasDocuments
-      tree.shape.now tree.counts.now p.start p.end (section files tree.documents.now) docs → ⊥))
-      step.reads.held bad)
+  -- the section has no documents of a pick that may be selected beside those before
+  pub part_bad : RefusesPart tree task asked rows now.held p table → IsBadIn first.held
+  part_bad bad = by first.held step.picked.told (subst (λ h. RefusesPart tree task asked rows h p
+      table) step.reads.held bad)
     where
-      by : (h : Option Files) → IfSome h (λ files. (docs : List Doc) → HasDocuments tree.shape.now
-          tree.counts.now p.start p.end (section files tree.documents.now) docs → ⊥) → IsBadIn h
-      by None bad = tt
-      by (Some files) bad = λ all are may.
-          let own = read_at tree.shape.now tree.counts.now (section files tree.documents.now) ps all
-          i d lt are in
-          bad own.0 own.1
-
-  -- its documents may not be selected beside those before
-  pub take_bad : (docs : List Doc) → IfSome now.held (λ files. HasDocuments tree.shape.now
-      tree.counts.now p.start p.end (section files tree.documents.now) docs)
-      → ¬ MayBeSelected asked.columns.now rows
-      (table.docs ++ selected_docs asked (left_of (asked_of task) k p.level docs))
-      → IsBadIn first.held
-  take_bad docs has bad = by first.held step.picked.told (subst (λ h. IfSome h (λ files.
-      HasDocuments tree.shape.now tree.counts.now p.start p.end (section files tree.documents.now)
-      docs)) step.reads.held has)
-    where
-      t : asks.Task
-      t = asked_of task
-
       by : (h : Option Files) → TellsRead tree h (take i ps) step.picked.read
-          → IfSome h (λ files. HasDocuments tree.shape.now tree.counts.now p.start p.end
-          (section files tree.documents.now) docs) → IsBadIn h
-      by None told has = tt
-      by (Some files) told has = λ all are may.
+          → RefusesPart tree task asked rows h p table → IsBadIn h
+      by None told bad = tt
+      by (Some files) told bad = λ all are may.
+          let bytes = section files tree.documents.now in
+          let own = read_at tree.shape.now tree.counts.now bytes ps all i d lt are in
           let mid = passed (asked_of task) k (take i ps) step.picked.read in
-          let next = left_of (asked_of task) k p.level docs in
-          let split = passed_split tree.shape.now tree.counts.now (section files tree.documents.now)
-          (asked_of task) k ps i d step.picked.read all docs lt told has are in
+          let next = left_of (asked_of task) k p.level own.0 in
+          let split = passed_split tree.shape.now tree.counts.now bytes (asked_of task) k ps i d
+          step.picked.read all own.0 lt told own.1 are in
           let all_are : selected_docs asked (passed (asked_of task) k ps all)
           ≡ (table.docs ++ selected_docs asked next) ++ selected_docs asked split.0 =
           ap (selected_docs asked) split.1
           ∙ map-append (selected_doc asked) (mid ++ next) split.0
           ∙ ap (λ l. l ++ selected_docs asked split.0) (map-append (selected_doc asked) mid next
           ∙ ap (λ l. l ++ selected_docs asked next) (sym step.picked.docs_are)) in
-          bad (may_first asked.columns.now rows (table.docs ++ selected_docs asked next)
+          bad own.0 own.1 (may_first asked.columns.now rows (table.docs ++ selected_docs asked next)
           (selected_docs asked split.0) (subst (MayBeSelected asked.columns.now rows) all_are may))
 
 -- all picks were read

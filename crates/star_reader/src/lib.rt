@@ -9,6 +9,7 @@ mod key;
 mod picked;
 mod row_count;
 mod selection;
+mod testing;
 mod tree_part;
 
 pub use asked::{Asked, GroupColumn};

@@ -15,9 +15,11 @@ ghost use Rattle.star_reader.specs.Selected.{selected_docs};
 
 use crate::asked::{Asked, GroupColumn};
 use crate::row_count::weight_of;
+use crate::testing::passes_from;
 use agg_laws::{AggKind, AggState, Kinds, TreeShape};
+use star_file::SpelledDocs;
 use star_table::StarTable;
-use star_walk::{Task, passes_from};
+use star_walk::Task;
 use std::alloc::{AllocError, Global};
 
 /// The documents that are selected, and how many rows they stand for at least. The ids and states
@@ -61,7 +63,7 @@ impl Selected {
     pub(crate) fn take_passing(
         &mut self,
         task: &Task,
-        table: &StarTable,
+        table: &SpelledDocs<'_>,
         level: usize,
         asked: &Asked<'_>,
         shape: &TreeShape,
@@ -84,7 +86,7 @@ impl Selected {
             ++ selected_docs asked.now
             (left_of (asked_of task.now) (length task.now.matched) level table.now.docs)))) }
     {
-        let count = table.len() as u32;
+        let count = table.len();
         self.table.reserve(count)?;
         for at in 0..count {
             if !passes_from(task, table, at, level) {
@@ -100,7 +102,7 @@ impl Selected {
     // Takes a document, for which there is room, and answers whether it may be selected.
     fn take(
         &mut self,
-        table: &StarTable,
+        table: &SpelledDocs<'_>,
         at: u32,
         asked: &Asked<'_>,
         shape: &TreeShape,
@@ -140,7 +142,7 @@ impl Selected {
 
 // Puts the ids of a document in the group columns, and answers whether each is one of its column.
 fn put_ids(
-    table: &StarTable,
+    table: &SpelledDocs<'_>,
     at: u32,
     columns: &[GroupColumn<'_>],
     ids: &mut Vec<u32>,
@@ -165,7 +167,7 @@ fn put_ids(
 
 // Puts the states of a document for the aggregates.
 fn put_states(
-    table: &StarTable,
+    table: &SpelledDocs<'_>,
     at: u32,
     pairs: &[u8],
     states: &mut Vec<AggState>,

@@ -5,4 +5,3 @@ pub mod TreePicks
 pub mod CoverLemmas
 pub mod CoverSteps
 pub mod CoalesceSteps
-pub mod TestSteps

@@ -5,7 +5,6 @@ mod coalescing;
 mod laws;
 mod pick;
 mod task;
-mod testing;
 mod walking;
 
 pub use coalescing::coalesced;
@@ -13,5 +12,4 @@ pub use data_types::NoMemory;
 pub use laws::{coalesced_law, covered_law, walk_law, walkable_law};
 pub use pick::{Pick, Picks};
 pub use task::Task;
-pub use testing::passes_from;
 pub use walking::walk;

@@ -15,6 +15,7 @@ use Rattle.table_store.specs.Segments.{has_segment}
 use Rattle.table_store.specs.State.{Segment, Segments, Texts}
 use Rattle.table_store.proofs.NameLemmas.{and_false, entries_apart, same}
 use Rattle.table_store.specs.Stands.{IsTable, NamesCount, StandsFor, segment_file}
+use Rattle.table_store.proofs.KeptLemmas.{live_name}
 use Rattle.table_store.proofs.SegmentLemmas.{file_kept}
 
 some_mapped : {A B : Type 0} (f : A → B) (o : Option A) → is_some (option_map f o) ≡ is_some o
@@ -31,7 +32,7 @@ has_by table texts segments name valid (Some segment) got = ap (λ b. b && true)
 
 has_kept : (files : Files) (texts : Texts) (segments : Segments) (name : List ℕ) → StandsFor files texts segments → has_segment files name ≡ is_some (tree.get segments name)
 has_kept files texts segments name stands =
-    ap (λ o. is_segment_name name && is_some o) (stands.kept (file_of name) ∙ file_kept stands.table texts segments name)
+    ap (λ o. is_segment_name name && is_some o) (stands.stored (file_of name) (live_name name) ∙ file_kept stands.table texts segments name)
     ∙ ap (λ b. is_segment_name name && b) (some_mapped (segment_file stands.table name) (tree.get segments name))
     ∙ has_by stands.table texts segments name stands.valid (tree.get segments name) refl
 

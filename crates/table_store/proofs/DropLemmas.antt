@@ -1,5 +1,5 @@
 -- A segment is dropped.
-use Rattle.std.proofs.Common.{◌≡◌, ◌≢◌, ◌∙◌, ◌≤◌, ◌-◌, ℕ, Bool, true, false, List, Option, Some, None, cond, inl, inr, refl, sym, ap, subst, arith}
+use Rattle.std.proofs.Common.{◌≡◌, ◌≢◌, ◌∙◌, ◌≤◌, ◌-◌, ℕ, Bool, true, false, List, Option, Some, None, cond, inl, inr, sym, ap, subst, arith}
 use Rattle.std.specs.Prelude.{option_map}
 use Rattle.std.specs.FinMap as map
 use Rattle.std.specs.Cmp.{eq_by_cmp_equiv}
@@ -9,7 +9,8 @@ use Rattle.outside.specs.Files.{Files, Lacks, name_order, without_file}
 use Rattle.table_schema.specs.declared.table.Table as schema
 use Rattle.segment_file.specs.Names.{file_of}
 use Rattle.table_store.specs.State.{Segment, Segments, Texts}
-use Rattle.table_store.specs.Stands.{DropStands, kept_file, kept_segment, segment_file}
+use Rattle.table_store.specs.Stands.{DropStands, stored_file, stored_segment, segment_file}
+use Rattle.table_store.specs.Kept.{IsKeptName}
 use Rattle.table_store.specs.Segments.{HasSegment, most_segments, stem}
 use Rattle.table_store.specs.TableFile.{table_file, table_name}
 use Rattle.table_store.proofs.FilesLemmas.{other_name}
@@ -37,7 +38,7 @@ none_found bytes e = absurd cc
 -- ---- the files that are kept
 
 -- the files of other names are kept as before, where a segment is dropped
-others_left : (table : schema.Table) (segments : Segments) (name q : List ℕ) → q ≢ file_of name → kept_segment table (map.remove segments name) q ≡ kept_segment table segments q
+others_left : (table : schema.Table) (segments : Segments) (name q : List ℕ) → q ≢ file_of name → stored_segment table (map.remove segments name) q ≡ stored_segment table segments q
 others_left table segments name q other =
     elim (is_name q (file_of (stem q))) [
       | inl same ↦
@@ -49,20 +50,20 @@ others_left table segments name q other =
           ∙ sym (ap (λ b. cond b (option_map (segment_file table (stem q)) (map.get segments (stem q))) None) none)
     ]
 
-module _ (files : Files) (table : schema.Table) (texts : Texts) (segments : Segments) (name : List ℕ) (kept : (q : List ℕ) → map.get files q ≡ kept_file table texts segments q) where
-  kept-here : map.get (map.remove files (file_of name)) (file_of name) ≡ kept_file table texts (map.remove segments name) (file_of name)
-  kept-here = got_none files (file_of name) ∙ sym (file_kept table texts (map.remove segments name) name ∙ ap (option_map (segment_file table name)) (got_none segments name))
+module _ (files : Files) (table : schema.Table) (texts : Texts) (segments : Segments) (name : List ℕ) (stored : (q : List ℕ) → ¬ IsKeptName q → map.get files q ≡ stored_file table texts segments q) where
+  stored-here : map.get (map.remove files (file_of name)) (file_of name) ≡ stored_file table texts (map.remove segments name) (file_of name)
+  stored-here = got_none files (file_of name) ∙ sym (file_kept table texts (map.remove segments name) name ∙ ap (option_map (segment_file table name)) (got_none segments name))
 
-  kept-there : (q : List ℕ) → q ≢ file_of name → map.get (map.remove files (file_of name)) q ≡ kept_file table texts (map.remove segments name) q
-  kept-there q other =
+  stored-there : (q : List ℕ) → ¬ IsKeptName q → q ≢ file_of name → map.get (map.remove files (file_of name)) q ≡ stored_file table texts (map.remove segments name) q
+  stored-there q live other =
       got_left files (file_of name) q other
-      ∙ kept q
+      ∙ stored q live
       ∙ ap (λ o. cond (eq_by_cmp name_order q table_name) (Some (table_file texts)) o) (sym (others_left table segments name q other))
 
-  kept-is : (q : List ℕ) → map.get (map.remove files (file_of name)) q ≡ kept_file table texts (map.remove segments name) q
-  kept-is q = elim (is_name q (file_of name)) [
-    | inl same ↦ subst (λ n. map.get (map.remove files (file_of name)) n ≡ kept_file table texts (map.remove segments name) n) (sym same) kept-here
-    | inr other ↦ kept-there q other
+  stored-is : (q : List ℕ) → ¬ IsKeptName q → map.get (map.remove files (file_of name)) q ≡ stored_file table texts (map.remove segments name) q
+  stored-is q live = elim (is_name q (file_of name)) [
+    | inl same ↦ subst (λ n. map.get (map.remove files (file_of name)) n ≡ stored_file table texts (map.remove segments name) n) (sym same) stored-here
+    | inr other ↦ stored-there q live other
   ]
 
 -- a segment that is left was there before
@@ -81,7 +82,7 @@ drop_stands files texts segments name stands = record {
     named = λ q s got. stands.valid.named q s (was_there segments name q s got);
     each = λ q s got. stands.valid.each q s (was_there segments name q s got);
   };
-  kept = kept-is files stands.table texts segments name stands.kept;
+  stored = stored-is files stands.table texts segments name stands.stored;
 }
 
 -- ---- a file is taken away

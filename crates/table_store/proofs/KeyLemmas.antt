@@ -25,6 +25,7 @@ use Rattle.table_store.specs.Stands.{IsSegment, NamesStand, Stands, segment_file
 use Rattle.table_store.specs.Accepted.{IsAccepted}
 use Rattle.table_store.proofs.AcceptedLemmas.{accepted_valid, one_table}
 use Rattle.table_store.proofs.FilesLemmas.{same_name}
+use Rattle.table_store.proofs.KeptLemmas.{live_name}
 use Rattle.table_store.proofs.SegmentLemmas.{file_kept}
 
 abbrev same : List ℕ → List ℕ → Bool
@@ -99,7 +100,7 @@ keys_ascend (e ∷ es) h =
 -- the file of a segment of a standing store
 pub segment_there : (files : Files) (texts : Texts) (segments : Segments) (stands : Stands files (HasTable texts segments)) (name : List ℕ)
     → tree.get files (file_of name) ≡ option_map (segment_file stands.table name) (tree.get segments name)
-segment_there files texts segments stands name = stands.kept (file_of name) ∙ file_kept stands.table texts segments name
+segment_there files texts segments stands name = stands.stored (file_of name) (live_name name) ∙ file_kept stands.table texts segments name
 
 named_there : (name : List ℕ) (o : Option Segment) (file : Segment → List ℕ) → ((segment : Segment) → o ≡ Some segment → IsSegmentName name) → (is_segment_name name && is_some (option_map file o)) ≡ is_some o
 named_there name None file named = elim (is_segment_name name) as (λ b. (b && false) ≡ false) [ true ↦ refl | false ↦ refl ]

@@ -1,5 +1,6 @@
 pub mod CallLemmas
 pub mod FilesLemmas
+pub mod KeptLemmas
 pub mod TableFileLemmas
 pub mod NameLemmas
 pub mod AcceptedLemmas
@@ -8,5 +9,7 @@ pub mod SegmentLemmas
 pub mod DropLemmas
 mod OpenLemmas
 pub mod StandsLemmas
+mod KeepLemmas
+mod CopyLemmas
 pub mod KeyLemmas
 pub mod ImageLemmas

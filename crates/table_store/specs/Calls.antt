@@ -3,7 +3,6 @@ use Rattle.std.specs.Prelude.{◌≡◌, ◌≤◌, ℕ, List, Option, Some, Res
 use Rattle.outside.specs.Counts.{Rose}
 use Rattle.outside.specs.Files.{Files, SameBut, with_file, without_file}
 use Rattle.outside.specs.Seen.{OnlyReads, Seen}
-use Rattle.values.specs.Columns.{ListedColumns, rows_of}
 use Rattle.values.specs.declared.value.Value.{Value}
 use Rattle.table_schema.specs.declared.table.Table.{Table}
 use Rattle.segment_build.specs.Growing.{TreesFit}
@@ -12,7 +11,7 @@ use Rattle.segment_build.specs.Publishing.{incoming}
 use Rattle.segment_file.specs.Image.{image}
 use Rattle.segment_file.specs.Names.{file_of}
 use Rattle.segment_file.specs.declared.part.Part.{Part}
-use Rattle.table_store.specs.Images.{IsNoStoredImage, IsSpelledText, IsStoredCount, IsStoredImage, SpellsNoStored}
+use Rattle.table_store.specs.Images.{IsNoStoredImage, IsSpelledText, IsStoredCount, SpellsNoStored}
 use Rattle.table_store.specs.Segments.{HasRoom, HasSegment, IsFull, LacksSegment}
 use Rattle.table_store.specs.declared.fault.StoreFault.{StoreFault}
 use Rattle.table_store.specs.declared.fault.StoreFault.TheVariants.{NameTaken, NoMemory, NoSegment, NotASegment, ReadFault, TooManySegments}
@@ -57,12 +56,7 @@ pub record LooksAtSegment {A : Type 0} (IsOf : Files → A → Type 0)
   pub log : LogsFile (file_of name) old.log new.log
   pub unread : IfSome old.held (λ files. LacksSegment (Some files) name → new.log ≡ old.log)
 
--- it was looked at whole: it is the image of the rows that are answered, or of none
-abbrev pub ChecksSegment : Table → List ℕ → Seen → Seen → Result ListedColumns StoreFault → Type 0
-ChecksSegment table name = LooksAtSegment (λ files t. IsStoredImage table files name (rows_of t))
-    (λ files part. IsNoStoredImage table files name part) name
-
--- the same, where it is answered how many rows there are
+-- it was looked at whole: it is the image of as many rows as are answered, or of none
 abbrev pub CountsSegment : Table → List ℕ → Seen → Seen → Result ℕ StoreFault → Type 0
 CountsSegment table name = LooksAtSegment (λ files count. IsStoredCount table files name count)
     (λ files part. IsNoStoredImage table files name part) name
@@ -101,3 +95,16 @@ pub record OnlyPublishes (FailsToRead FailsToWrite : Type 0) (old new : Seen) : 
   pub writes_later : old.write_faults ≤ new.write_faults
   pub write_failed : FailsToWrite → Rose old.write_faults new.write_faults
   pub writes_still : ¬ FailsToWrite → new.write_faults ≡ old.write_faults
+
+-- what a call that reads one file, and writes the part that files are published by, leaves of the
+-- rest of a depot; each count of faults rose just where the call failed so
+pub record CopiesFile (file : List ℕ) (FailsToRead FailsToWrite : Type 0) (old new : Seen) : Type 0
+  where
+    pub parts : SameBut incoming old.parts new.parts
+    pub log : LogsFile file old.log new.log
+    pub reads_later : old.read_faults ≤ new.read_faults
+    pub read_failed : FailsToRead → Rose old.read_faults new.read_faults
+    pub reads_still : ¬ FailsToRead → new.read_faults ≡ old.read_faults
+    pub writes_later : old.write_faults ≤ new.write_faults
+    pub write_failed : FailsToWrite → Rose old.write_faults new.write_faults
+    pub writes_still : ¬ FailsToWrite → new.write_faults ≡ old.write_faults

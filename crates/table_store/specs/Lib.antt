@@ -2,6 +2,8 @@ pub mod State
 pub mod TableFile
 pub mod Faults
 pub mod Segments
+pub mod Kept
+pub mod Copies
 pub mod Accepted
 pub mod Images
 pub mod Calls

@@ -1,5 +1,5 @@
 -- The segments whose files are published.
-use Rattle.std.specs.Prelude.{◌≡◌, ◌<◌, ◌≤◌, ◌-◌, ℕ, Bool, false, ◌&&◌, Option, Some, None, IfSome, List, [], ◌∷◌, ◌++◌, take, is_some, if◌then◌else◌, length}
+use Rattle.std.specs.Prelude.{◌≡◌, ◌<◌, ◌≤◌, ◌-◌, ℕ, Bool, ◌&&◌, Option, Some, None, IfSome, List, [], ◌∷◌, ◌++◌, take, is_some, if◌then◌else◌, length}
 use Rattle.std.specs.FinMap as map
 use Rattle.std.specs.List.{list_any}
 use Rattle.std.specs.List.Sorted.{IsStrictlySortedBy}
@@ -11,26 +11,18 @@ use Rattle.segment_file.specs.Names.{file_of, is_segment_name}
 abbrev pub most_segments : ℕ
 most_segments = 512
 
--- whether a published file stands for nothing, whatever its bytes: none does so far
-abbrev pub is_idle : Files → List ℕ → Bool
-is_idle files name = false
-
--- the bytes of a file that stands for something
-abbrev pub live_file : Files → List ℕ → Option (List ℕ)
-live_file files name = if is_idle files name then None else map.get files name
-
--- whether there is a segment of this name: its file is there, and stands for something
+-- whether there is a segment of this name: its file is there
 abbrev pub has_segment : Files → List ℕ → Bool
-has_segment files name = is_segment_name name && is_some (live_file files (file_of name))
+has_segment files name = is_segment_name name && is_some (map.get files (file_of name))
 
--- where files are told, that of a segment of this name is there, and stands for something
+-- where files are told, that of a segment of this name is there
 abbrev pub HasSegment : Option Files → List ℕ → Type 0
 HasSegment told name = IfSome told (λ files. (bytes : List ℕ)
-    × (live_file files (file_of name) ≡ Some bytes))
+    × (map.get files (file_of name) ≡ Some bytes))
 
 -- where files are told, there is no such file
 abbrev pub LacksSegment : Option Files → List ℕ → Type 0
-LacksSegment told name = IfSome told (λ files. live_file files (file_of name) ≡ None)
+LacksSegment told name = IfSome told (λ files. map.get files (file_of name) ≡ None)
 
 -- the names of all segments, ascending
 pub record AreNames (files : Files) (names : List (List ℕ)) : Type 0 where

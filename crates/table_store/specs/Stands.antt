@@ -1,5 +1,5 @@
 -- Which files a store's state is kept in.
-use Rattle.std.specs.Prelude.{◌≡◌, ◌≤◌, ◌<◌, ℕ, List, length, Option, Some, None, option_map, if◌then◌else◌}
+use Rattle.std.specs.Prelude.{◌≡◌, ◌≤◌, ◌<◌, ◌⊎◌, ℕ, List, length, Option, Some, None, option_map, if◌then◌else◌}
 use Rattle.std.specs.FinMap as map
 use Rattle.std.specs.Ordering.{eq_by_cmp}
 use Rattle.outside.specs.Files.{Files, OfFile, name_order}
@@ -10,7 +10,8 @@ use Rattle.segment_file.specs.Names.{IsSegmentName, file_of}
 use Rattle.segment_file.specs.Ordered.{ordered}
 use Rattle.table_store.specs.State.{Segment, Segments, State, NoTable, HasTable, Texts}
 use Rattle.table_store.specs.Accepted.{IsAccepted, IsTableFile}
-use Rattle.table_store.specs.Segments.{AreNames, live_file, most_segments, stem}
+use Rattle.table_store.specs.Kept.{IsKeptName}
+use Rattle.table_store.specs.Segments.{AreNames, most_segments, stem}
 use Rattle.table_store.specs.TableFile.{table_file, table_name}
 
 -- ---- the segments of a table
@@ -20,8 +21,8 @@ abbrev pub segment_file : schema.Table → List ℕ → Segment → List ℕ
 segment_file table name segment = file_of_rows segment.format table name segment.rows
 
 -- the file that a name has among those of segments
-abbrev pub kept_segment : schema.Table → Segments → List ℕ → Option (List ℕ)
-kept_segment table segments name =
+abbrev pub stored_segment : schema.Table → Segments → List ℕ → Option (List ℕ)
+stored_segment table segments name =
     if eq_by_cmp name_order name (file_of (stem name)) then option_map
     (segment_file table (stem name)) (map.get segments (stem name)) else None
 
@@ -46,19 +47,21 @@ pub record IsTable (table : schema.Table) (texts : Texts) (segments : Segments) 
       → IsSegment table segment
 
 -- the bytes that a name has in the files of a table with segments
-abbrev pub kept_file : schema.Table → Texts → Segments → List ℕ → Option (List ℕ)
-kept_file table texts segments name = if eq_by_cmp name_order name table_name then Some
-    (table_file texts) else kept_segment table segments name
+abbrev pub stored_file : schema.Table → Texts → Segments → List ℕ → Option (List ℕ)
+stored_file table texts segments name = if eq_by_cmp name_order name table_name then Some
+    (table_file texts) else stored_segment table segments name
 
--- the published files are just those of a table with segments
+-- the published files are just those of a table with segments, and any whose names are those of
+-- kept files, which stand for nothing
 pub record StandsFor (files : Files) (texts : Texts) (segments : Segments) : Type 0 where
   pub table : schema.Table
   pub valid : IsTable table texts segments
-  pub kept : (name : List ℕ) → live_file files name ≡ kept_file table texts segments name
+  pub stored : (name : List ℕ) → ¬ IsKeptName name
+      → map.get files name ≡ stored_file table texts segments name
 
--- the published files are just those of a state
+-- the published files are just those of a state: there is none where there is no table
 abbrev pub Stands : Files → State → Type 0
-Stands files NoTable = (name : List ℕ) → live_file files name ≡ None
+Stands files NoTable = (name : List ℕ) → map.get files name ≡ None
 Stands files (HasTable texts segments) = StandsFor files texts segments
 
 -- ---- laws
@@ -98,11 +101,42 @@ SegmentStands =
     → Stands (map.insert files (file_of name) (image 1 read name rows))
     (HasTable texts (map.insert segments name (segment_of read rows)))
 
+-- where there is a segment of a name, the image of other rows in the place of its file makes the
+-- store stand for the state with them in the place of its rows
+abbrev pub ReplaceStands : Type 0
+ReplaceStands =
+    (files : Files) (texts : Texts) (segments : Segments) (read : schema.Table) (name : List ℕ)
+    (rows : List (List Value)) (was : Segment) → Stands files (HasTable texts segments)
+    → IsAccepted texts read → IsSegmentName name → CanHold read rows
+    → map.get segments name ≡ Some was
+    → Stands (map.insert files (file_of name) (image 1 read name rows))
+    (HasTable texts (map.insert segments name (segment_of read rows)))
+
 -- the store without the file of a segment stands for the state without the segment
 abbrev pub DropStands : Type 0
 DropStands = (files : Files) (texts : Texts) (segments : Segments) (name : List ℕ)
     → Stands files (HasTable texts segments)
     → Stands (map.remove files (file_of name)) (HasTable texts (map.remove segments name))
+
+-- a kept file more, whatever its bytes, or one less, leaves what files stand for as it was
+pub record KeptIdle : Type 0 where
+  pub more : (files : Files) (texts : Texts) (segments : Segments) (kept bytes : List ℕ)
+      → Stands files (HasTable texts segments) → IsKeptName kept
+      → Stands (map.insert files kept bytes) (HasTable texts segments)
+  pub less : (files : Files) (texts : Texts) (segments : Segments) (kept : List ℕ)
+      → Stands files (HasTable texts segments) → IsKeptName kept
+      → Stands (map.remove files kept) (HasTable texts segments)
+
+-- this is the file of a table, or of a segment
+abbrev pub IsLiveName : List ℕ → Type 0
+IsLiveName file = (file ≡ table_name) ⊎ ((name : List ℕ) × (file ≡ file_of name))
+
+-- the file of a table or of a segment that is put or taken away leaves each kept one as it was
+pub record KeptStay : Type 0 where
+  pub put : (files : Files) (file kept bytes : List ℕ) → IsLiveName file → IsKeptName kept
+      → map.get (map.insert files file bytes) kept ≡ map.get files kept
+  pub taken : (files : Files) (file kept : List ℕ) → IsLiveName file → IsKeptName kept
+      → map.get (map.remove files file) kept ≡ map.get files kept
 
 -- files that stand for a state have as many names of segments as it has segments
 abbrev pub NamesCount : Type 0

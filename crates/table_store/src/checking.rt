@@ -2,60 +2,18 @@
 
 ghost use Rattle.outside.specs.Seen.{seen};
 ghost use Rattle.segment_file.specs.Names.{IsSegmentOf};
-ghost use Rattle.table_store.specs.Calls.{ChecksSegment, CountsSegment, SpellsSegment};
+ghost use Rattle.table_store.specs.Calls.{CountsSegment, SpellsSegment};
 ghost use Rattle.table_store.specs.Segments.{HasSegment};
 
 use crate::{StoreFault, holds_segment};
 use outside::{Bytes, Depot};
-use segment_check::{check_columns, count_image, spell_text};
+use segment_check::{count_image, spell_text};
 use segment_file::{HeadFault, segment_file_name};
 use std::alloc::Global;
 use table_schema::Table;
-use values::Columns;
 
-/// The rows of the segment of this name, column by column, or the part of its file that is wrong.
-/// It is looked for by its name, and the file of no other segment is opened.
-pub fn check_segment<D: Depot>(
-    alloc: Global,
-    depot: &mut D,
-    table: &Table,
-    name: &str,
-) -> Result<Columns, StoreFault>
-    requires { IsSegmentOf table.now name.now }
-    ensures { ChecksSegment table.now name.now
-        (seen D.Shelf depot.old) (seen D.Shelf depot.new) result }
-{
-    match holds_segment(alloc, depot, name) {
-        Ok(true) => {}
-        Ok(false) => return Err(StoreFault::NoSegment),
-        Err(fault) => return Err(fault),
-    }
-    check_there(alloc, depot, table, name)
-}
-
-// The same of a segment that is there.
-fn check_there<D: Depot>(
-    alloc: Global,
-    depot: &mut D,
-    table: &Table,
-    name: &str,
-) -> Result<Columns, StoreFault>
-    requires asked { IsSegmentOf table.now name.now }
-    requires there { HasSegment (D.held depot.old) name.now }
-    ensures { ChecksSegment table.now name.now
-        (seen D.Shelf depot.old) (seen D.Shelf depot.new) result }
-{
-    let file = segment_file_name(alloc, name)?;
-    match check_columns(alloc, depot, file.as_str(), name, table) {
-        Ok(columns) => Ok(columns),
-        Err(HeadFault::NotASegment(part)) => Err(StoreFault::NotASegment(part)),
-        Err(HeadFault::ReadFault) => Err(StoreFault::ReadFault),
-        Err(HeadFault::NoMemory) => Err(StoreFault::NoMemory),
-    }
-}
-
-/// How many rows the segment of this name has, or the part of its file that is wrong. The rows are
-/// not made, and the file of no other segment is opened.
+/// How many rows the segment of this name has, or the part of its file that is wrong. It is looked
+/// for by its name, the rows are not made, and the file of no other segment is opened.
 pub fn count_segment<D: Depot>(
     alloc: Global,
     depot: &mut D,

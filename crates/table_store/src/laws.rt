@@ -1,5 +1,5 @@
 //! Laws of the files that a state is kept in.
-ghost use Rattle.table_store.specs.Stands.{CreateStands, DropStands, EmptyStands, NamesCount, NamesStand, SegmentStands, StandsForOne, TableStands};
+ghost use Rattle.table_store.specs.Stands.{CreateStands, DropStands, EmptyStands, KeptIdle, KeptStay, NamesCount, NamesStand, ReplaceStands, SegmentStands, StandsForOne, TableStands};
 
 /// Files stand for at most one state.
 pub fn one_state_law()
@@ -32,6 +32,22 @@ pub fn segment_stands_law()
 /// without the segment.
 pub fn drop_stands_law()
     ensures { DropStands }
+{}
+
+/// Where a store stands for a table with a segment of a name, the image of other rows in the place
+/// of its file makes a store that stands for the state with them in the place of its rows.
+pub fn replace_stands_law()
+    ensures { ReplaceStands }
+{}
+
+/// A kept file more, whatever its bytes, or one less, leaves what a store stands for as it was.
+pub fn kept_idle_law()
+    ensures { KeptIdle }
+{}
+
+/// The file of a table or of a segment that is put or taken away leaves each kept file as it was.
+pub fn kept_stay_law()
+    ensures { KeptStay }
 {}
 
 /// Files that stand for a state have as many names of segments as it has segments.

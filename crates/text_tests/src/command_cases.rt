@@ -1,16 +1,17 @@
 //! Cases of commands: what has to come, the calls that fail, and the words, with bars between them.
 //!
 //! `file NAME TEXT`, `ones NAME COUNT` and `numbers NAME COUNT` give a file to be read by the
-//! commands after it, that text, a column of so many ones, or one of the numbers from 1 on; `stored
-//! NAME TEXT` gives a published file of the store, and `segments COUNT` so many with names of
-//! segments' files, from `g1.seg` on. The calls that fail are `DEVICE:NUMBER`, with blanks between
-//! them, or `DEVICE:NUMBER..` for all from one on. In their place `then` keeps the devices of the
-//! command before, `again` keeps the published files alone, as after a restart, and `long` says of
-//! every input file that it is too long. `length 0`, `length + 1` and `length - 1` say something
-//! false of the length of every input file, the same with `stored` of that of every published
-//! file, and with `segments` of those with names of segments. A word `pad COUNT TEXT` is the text
-//! with so many bytes, by blanks at its end. The word `open?` opens the table, and `file?` shows
-//! its file.
+//! commands after it, that text, a column of so many ones, or one of the numbers from 1 on;
+//! `multiples NAME FIRST COUNT` gives one of five columns, the numbers from FIRST on, their double,
+//! and so on up to their fivefold; `stored NAME TEXT` gives a published file of the store, and
+//! `segments COUNT` so many with names of segments' files, from `g1.seg` on. The calls that fail
+//! are `DEVICE:NUMBER`, with blanks between them, or `DEVICE:NUMBER..` for all from one on. In
+//! their place `then` keeps the devices of the command before, `again` keeps the published files
+//! alone, as after a restart, and `long` says of every input file that it is too long. `length 0`,
+//! `length + 1` and `length - 1` say something false of the length of every input file, the same
+//! with `stored` of that of every published file, and with `segments` of those with names of
+//! segments. A word `pad COUNT TEXT` is the text with so many bytes, by blanks at its end. The word
+//! `open?` opens the table, and `file?` shows its file.
 
 use crate::cases::Report;
 use crate::counting::Span;
@@ -28,6 +29,7 @@ enum Gift {
     Stored,
     Ones,
     Numbers,
+    Multiples,
     Segments,
     Span,
 }
@@ -37,6 +39,7 @@ const GIFTS: &[(&str, Gift)] = &[
     ("stored", Gift::Stored),
     ("ones", Gift::Ones),
     ("numbers", Gift::Numbers),
+    ("multiples", Gift::Multiples),
     ("segments", Gift::Segments),
     ("span", Gift::Span),
 ];
@@ -72,6 +75,26 @@ fn numbers(alloc: Global, count: u32) -> Vec<u8> {
     for at in 0..count {
         text.add_count(u64::from(at) + 1);
         text.add("\n");
+    }
+    text.into_string().into_bytes()
+}
+
+// A row of a number and its multiples.
+fn add_multiples(text: &Text, key: u64) {
+    text.add_count(key);
+    for times in 2..6u64 {
+        text.add(",");
+        text.add_count(key.saturating_mul(times));
+    }
+    text.add("\n");
+}
+
+// Columns `k`, `a`, `b`, `c` and `d`: numbers from one on, their double, and so on.
+fn multiples(alloc: Global, first: u32, count: u32) -> Vec<u8> {
+    let text = Text::new(alloc);
+    text.add("k,a,b,c,d\n");
+    for at in 0..count {
+        add_multiples(&text, u64::from(first) + u64::from(at));
     }
     text.into_string().into_bytes()
 }
@@ -152,6 +175,11 @@ impl Given {
             Gift::Stored => add_file(alloc, &mut self.stored, name, unescaped(alloc, rest)),
             Gift::Ones => add_file(alloc, &mut self.files, name, ones(alloc, number(rest))),
             Gift::Numbers => add_file(alloc, &mut self.files, name, numbers(alloc, number(rest))),
+            Gift::Multiples => {
+                let (first, count) = parted(rest, ' ');
+                let rows = multiples(alloc, number(first), number(count));
+                add_file(alloc, &mut self.files, name, rows);
+            }
             Gift::Segments => add_segments(alloc, &mut self.stored, number(name)),
             Gift::Span => {
                 let _added = self.spans.push(span(alloc, name, rest));

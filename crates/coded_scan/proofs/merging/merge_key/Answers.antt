@@ -82,7 +82,7 @@ merge_row-requires-clause-values c =
     c.in_ok-own.ensures ∙ ap (λ (gs : List ℕ). key_of gs (row_of (table_of segment).columns (c.index-first.result.now - 1))) c.as_slice-columns.ensures
     ∙ ap (λ (f : ℕ). key_of q.groups (row_of (table_of segment).columns (f - 1))) first in
     let r : IsRun q.groups c.in_ok-own.own run = key-run segment q.groups q.aggs keys places c.args.keyed.now holds k c.in_ok-own.own c.requires.key some values in
-    λ any. subst (λ (s : List AggState). HaveValues s) (sym row_is) (states_have q.aggs run (r.some (subst (λ n. 0 < n) c.requires.table.columns any)))
+    λ any. subst (λ (s : List AggState). HaveValues s) (sym row_is) (states_have q.aggs run r.some)
 
 pub merge_row-requires-clause-fits : goal.merge_row-requires-clause-fits
 merge_row-requires-clause-fits c =

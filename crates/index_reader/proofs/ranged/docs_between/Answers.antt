@@ -1,7 +1,7 @@
 use Rattle.std.proofs.Common.{rules}
 use Rattle.outside.specs.Seen.{seen}
 use Rattle.outside.proofs.SeenLemmas.{reads_after}
-use Rattle.doc_lists.specs.declared.doc_list.DocList.{DocList}
+use Rattle.doc_lists.specs.declared.doc_set.DocSet.{DocSet}
 use Rattle.index_reader.specs.declared.fault.ListFault.TheVariants.{BadList, ReadFault}
 use Rattle.index_reader.proofs.BucketSteps.{PartsRead, all_logs, check_told, outer_partly, ranged_bad, sure_partly, sure_told, told_at}
 use Rattle.index_reader.proofs.FaultLemmas.{reads_well, same_fault}
@@ -56,7 +56,7 @@ returns-in-Err-docs_of_parts-clause-reads g c = record {
       let mid = seen g.S.Shelf c.read_bucket_parts.new.shelf in
       let before = reads_well _ c.in-Ok.parts ReadFault first mid c.in-Ok.ensures.reads.only_reads in
       ranged_bad held place count rows n c.buckets_of-buckets.ensures
-      (told_at held mid.held place n rows (λ keys. ⊥) before.held (c.in-Err-docs_of_parts.ensures.reads.bad (same_fault _ DocList c.in-Err-docs_of_parts.fault BadList bad)));
+      (told_at held mid.held place n rows (λ keys. ⊥) before.held (c.in-Err-docs_of_parts.ensures.reads.bad (same_fault _ DocSet c.in-Err-docs_of_parts.fault BadList bad)));
 }
 
 pub returns-in-Err-docs_of_parts-2-clause-reads : goal.returns-in-Err-docs_of_parts-2-clause-reads
@@ -94,9 +94,9 @@ returns-in-Err-docs_of_parts-2-clause-reads g c = record {
       let mid = seen g.S.Shelf c.read_bucket_parts.new.shelf in
       let before = reads_well _ c.in-Ok.parts ReadFault first mid c.in-Ok.ensures.reads.only_reads in
       let next = seen g.S.Shelf c.docs_of_parts.new.shelf in
-      let both = reads_after ⊥ first mid next before (reads_well DocList c.in-Ok-docs_of_parts.docs ReadFault mid next c.in-Ok-docs_of_parts.ensures.reads.only_reads) in
+      let both = reads_after ⊥ first mid next before (reads_well DocSet c.in-Ok-docs_of_parts.docs ReadFault mid next c.in-Ok-docs_of_parts.ensures.reads.only_reads) in
       ranged_bad held place count rows n c.buckets_of-buckets.ensures
-      (told_at held next.held place n rows (λ keys. ⊥) both.held (c.in-Err-docs_of_parts-2.ensures.reads.bad (same_fault _ DocList c.in-Err-docs_of_parts-2.fault BadList bad)));
+      (told_at held next.held place n rows (λ keys. ⊥) both.held (c.in-Err-docs_of_parts-2.ensures.reads.bad (same_fault _ DocSet c.in-Err-docs_of_parts-2.fault BadList bad)));
 }
 
 pub returns-clause-sure : goal.returns-clause-sure
@@ -146,7 +146,7 @@ returns-clause-check g c =
     let mid = seen g.S.Shelf c.read_bucket_parts.new.shelf in
     let before = reads_well _ c.in-Ok.parts ReadFault first mid c.in-Ok.ensures.reads.only_reads in
     let next = seen g.S.Shelf c.docs_of_parts.new.shelf in
-    let both = reads_after ⊥ first mid next before (reads_well DocList c.in-Ok-docs_of_parts.docs ReadFault mid next c.in-Ok-docs_of_parts.ensures.reads.only_reads) in
+    let both = reads_after ⊥ first mid next before (reads_well DocSet c.in-Ok-docs_of_parts.docs ReadFault mid next c.in-Ok-docs_of_parts.ensures.reads.only_reads) in
     check_told held place count rows c.args.low c.args.high n o parts old now read next.held c.in-Ok-docs_of_parts-2.docs both.held c.in-Ok-docs_of_parts-2.ensures.found.docs
 
 pub returns-clause-reads : goal.returns-clause-reads

@@ -1,4 +1,4 @@
-use Rattle.std.proofs.Common.{◌∙◌, ◌<◌, length, ap, subst, sym, List}
+use Rattle.std.proofs.Common.{◌∙◌, length, ap, subst, sym, List}
 use Rattle.std.proofs.lemmas.Result.{IfOk-weaker}
 use Rattle.table_schema.specs.declared.query.Agg.{Agg}
 use Rattle.agg_laws.specs.declared.states.AggState.{AggState}
@@ -19,7 +19,7 @@ merge_row-requires-clause-kinds c =
 pub merge_row-requires-clause-values : goal.merge_row-requires-clause-values
 merge_row-requires-clause-values c = λ lt.
     let run = rows_at c.args.block.columns.now.columns c.args.places.now in
-    subst (λ (s : List AggState). HaveValues s) (sym c.in_ok-states.ensures.states) (states_have c.as_slice.result.now run (c.requires.run.some (subst (λ n. 0 < n) c.requires.room.of_query.columns lt)))
+    subst (λ (s : List AggState). HaveValues s) (sym c.in_ok-states.ensures.states) (states_have c.as_slice.result.now run c.requires.run.some)
 
 pub merge_row-requires-clause-fits : goal.merge_row-requires-clause-fits
 merge_row-requires-clause-fits c = merged_within (groups_in (in_pool c.args.table.now c.args.pool.now)) c.args.key.now c.in_ok-states.states (length c.args.places.now) c.requires.room.at_most c.requires.room.fits c.in_ok-states.ensures.fits

@@ -16,22 +16,22 @@ gathered-requires c =
     let numbers = c.in-Some.numbers.now in
     let is = ap (λ (d : Distinct). d.values) (sym c.dictionary.ensures) ∙ c.in-Some.ensures in
     let count : length (dictionary_of_ids column).values ≡ length numbers = ap length is ∙ length-map numbers Whole in
-    subst (AreBelow (length numbers)) (sym c.as_slice.ensures.value) (subst (λ n. AreBelow n column.ids.items) count c.requires.below)
+    subst (AreBelow (length numbers)) (sym (c.as_slice.ensures.value ∙ c.in_ok-put_all-in-Some.ensures)) (subst (λ n. AreBelow n column.ids) count c.requires.below)
 
-pub returns-in-Some : goal.returns-in-Some
-returns-in-Some c =
+pub returns-in_ok-put_all-in-Some : goal.returns-in_ok-put_all-in-Some
+returns-in_ok-put_all-in-Some c =
     let column = c.args.column.now in
-    let ids = column.ids.items in
+    let ids = column.ids in
     let numbers = c.in-Some.numbers.now in
     let is = ap (λ (d : Distinct). d.values) (sym c.dictionary.ensures) ∙ c.in-Some.ensures in
     let count : length (dictionary_of_ids column).values ≡ length numbers = ap length is ∙ length-map numbers Whole in
     let same = sym (ap (λ vs. map number_of (values_at vs ids)) is ∙ numbers_gathered numbers ids (subst (λ n. AreBelow n ids) count c.requires.below)) in
-    ok_so _ _ c.gathered.result (λ v each. each (pos 0) ∙ ap (map (λ p. get_or numbers p (pos 0))) c.as_slice.ensures.value ∙ same) c.gathered.ensures
+    ok_so _ _ c.gathered.result (λ v each. each (pos 0) ∙ ap (map (λ p. get_or numbers p (pos 0))) (c.as_slice.ensures.value ∙ c.in_ok-put_all-in-Some.ensures) ∙ same) c.gathered.ensures
 
 pub returns-in-None : goal.returns-in-None
 returns-in-None c =
     let column = c.args.column.now in
-    let ids = column.ids.items in
+    let ids = column.ids in
     let texts = c.in-None.ensures.0 in
     let is = ap (λ (d : Distinct). d.values) (sym c.dictionary.ensures) ∙ c.in-None.ensures.1 in
     let count : length (dictionary_of_ids column).values ≡ length texts = ap length is ∙ length-map texts Text in

@@ -11,11 +11,11 @@ pub returns-then-is_sorted : goal.returns-then-is_sorted
 returns-then-is_sorted c =
     let column = c.args.column.now in
     let these = c.as_slice-ids.result.now in
-    order_given (row_values column) (dictionary_of_ids column).values column.ids.items c.requires.coded.are (codes_of column c.requires.coded)
-    (tested_up _ column.ids.items these c.is_sorted.result c.as_slice-ids.ensures.value c.if-is_sorted.true (non_decreasing_from_is_sorted these c.is_sorted.result c.is_sorted.ensures.cases))
+    order_given (row_values column) (dictionary_of_ids column).values column.ids c.requires.coded.are (codes_of column c.requires.coded)
+    (tested_up _ column.ids these c.is_sorted.result (c.as_slice-ids.ensures.value ∙ c.in_ok-put_all.ensures) c.if-is_sorted.true (non_decreasing_from_is_sorted these c.is_sorted.result c.is_sorted.ensures.cases))
 
 pub returns : goal.returns
 returns c =
     let column = c.args.column.now in
-    order_places (row_values column) (dictionary_of_ids column).values column.ids.items c.in_ok-places.places c.requires.coded.are (codes_of column c.requires.coded)
-    (c.in_ok-places.ensures ∙ (λ i. entries ((c.count.ensures.count ∙ ap (λ (d : Distinct). length d.values) c.dictionary.ensures) i) (c.as_slice-ids.ensures.value i)))
+    order_places (row_values column) (dictionary_of_ids column).values column.ids c.in_ok-places.places c.requires.coded.are (codes_of column c.requires.coded)
+    (c.in_ok-places.ensures ∙ (λ i. entries ((c.count.ensures.count ∙ ap (λ (d : Distinct). length d.values) c.dictionary.ensures) i) ((c.as_slice-ids.ensures.value ∙ c.in_ok-put_all.ensures) i)))

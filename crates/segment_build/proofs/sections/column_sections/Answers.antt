@@ -33,7 +33,7 @@ columns-preserved c =
     let many = many_columns table coded c.requires.rows in
     let lt : at < length coded.columns.items = omega (arith, c.columns-test.true, c.len-count.ensures, many) in
     let below : at < length table.schema.fields = omega (arith, lt, many) in
-    coded_more table (columns_in coded) at (dictionary_of_ids column) (arranged 0 order column.ids.items) indexes.result c.columns.sections _ c.requires.rows.of_table.valid below
+    coded_more table (columns_in coded) at (dictionary_of_ids column) (arranged 0 order column.ids) indexes.result c.columns.sections _ c.requires.rows.of_table.valid below
     (coded_at table coded at column order c.requires.rows lt c.index.ensures c.requires.order) indexes.ensures.sorted indexes.ensures.inverted indexes.ensures.ranged
     c.columns.invariant c.in_ok-push_column.ensures
 

@@ -14,5 +14,5 @@ loop-column-preserved c =
     let column = get_or c.args.split.now i 0 in
     let lt : column < length coded.columns.items = c.requires i 0 c.loop-column-test.true in
     mapped_more (ids_at coded) c.args.split.now i column _ c.loop-column.all.items c.push.new.self.items c.loop-column-test.true (get_or_default c.args.split.now i 0 column c.loop-column-test.true)
-    (c.in_ok-ids.ensures.items_if_clones_equal (λ x y e. e) ∙ c.as_slice.ensures.value ∙ sym (own_ids coded column c.index.result.now lt c.index.ensures)) c.loop-column.invariant
+    (c.in_ok-put_all.ensures ∙ sym (own_ids coded column c.index.result.now lt c.index.ensures)) c.loop-column.invariant
     (c.in_ok-push.ensures.items ∙ ap (λ ids. c.loop-column.all.items ++ ids ∷ []) c.from_vec.ensures)

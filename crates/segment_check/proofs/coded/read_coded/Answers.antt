@@ -11,6 +11,7 @@ use Rattle.segment_check.specs.Reading.{AreColumns, HasIdsOf, IsColumn}
 use Rattle.segment_check.proofs.ColumnLemmas.{columns_have, columns_more}
 use Rattle.segment_check.proofs.HeadLemmas.{forward_placed}
 use Rattle.segment_check.proofs.RowLemmas.{dictionary_of_head, own_dictionary}
+use Rattle.segment_check.proofs.Once.{columns_end, columns_next, columns_start}
 use Rattle.segment_check.proofs.coded.read_coded.Goals as goal
 
 pub read_coded_column-requires-clause-loaded : goal.read_coded_column-requires-clause-loaded
@@ -34,6 +35,7 @@ columns-init g c = record {
   };
   only_reads = reads_none (seen g.S.Shelf c.args.shelf.now);
   log = λ file within. file_unread file (g.S.Shelf.log c.args.shelf.now) (g.S.Shelf.log c.args.shelf.now) refl;
+  once = columns_start c.args.table.now c.args.read.now.head (g.S.Shelf.log c.args.shelf.now) (g.S.Shelf.log c.args.shelf.now) refl;
 }
 
 pub columns-preserved : goal.columns-preserved
@@ -54,6 +56,7 @@ columns-preserved g c =
           (λ d loaded. subst (λ h. IsColumn h head c.columns.at d (listed column).values) c.columns.invariant.only_reads.held (own.column_is d loaded)));
       only_reads = reads_after ⊥ old mid now c.columns.invariant.only_reads (reads_well column mid now own.only_reads);
       log = λ file within. file_then file old.log mid.log now.log (c.columns.invariant.log file within) (c.in-Ok.ensures.log file within);
+      once = columns_next c.args.table.now c.args.read.now.head c.columns.at old.log mid.log now.log (omega (arith, c.columns-test.true, c.len-count.ensures)) c.columns.invariant.once c.in-Ok.ensures.once;
     }
 
 pub returns-in-Err-keep : goal.returns-in-Err-keep
@@ -67,6 +70,7 @@ returns-in-Err-keep g c =
       refused = λ p is. absurd cc;
       only_reads = reads_so _ _ old now (λ err. absurd cc) (λ err. absurd err) (reads_after ⊥ old mid now c.columns.invariant.only_reads (reads_well c.in-Ok.column mid now c.in-Ok.ensures.reads.only_reads));
       log = λ file within. file_then file old.log mid.log now.log (c.columns.invariant.log file within) (c.in-Ok.ensures.log file within);
+      once = columns_end c.args.table.now c.args.read.now.head (c.columns.at + 1) old.log now.log (columns_next c.args.table.now c.args.read.now.head c.columns.at old.log mid.log now.log (omega (arith, c.columns-test.true, c.len-count.ensures)) c.columns.invariant.once c.in-Ok.ensures.once);
     }
 
 pub returns-in-Err : goal.returns-in-Err
@@ -92,6 +96,7 @@ returns-in-Err g c =
           );
       only_reads = reads_err c.in-Err.fault old mid now c.columns.invariant.only_reads c.in-Err.ensures.reads.only_reads;
       log = λ file within. file_then file old.log mid.log now.log (c.columns.invariant.log file within) (c.in-Err.ensures.log file within);
+      once = columns_end c.args.table.now c.args.read.now.head (c.columns.at + 1) old.log now.log (columns_next c.args.table.now c.args.read.now.head c.columns.at old.log mid.log now.log (omega (arith, c.columns-test.true, c.len-count.ensures)) c.columns.invariant.once c.in-Err.ensures.once);
     }
 
 pub returns : goal.returns
@@ -107,4 +112,5 @@ returns g c =
       refused = tt;
       only_reads = reads_ended c.columns.columns old mid c.columns.invariant.only_reads;
       log = c.columns.invariant.log;
+      once = columns_end c.args.table.now c.args.read.now.head c.columns.at old.log mid.log c.columns.invariant.once;
     }

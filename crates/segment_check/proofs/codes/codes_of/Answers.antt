@@ -13,8 +13,8 @@ use Rattle.segment_check.proofs.codes.codes_of.Goals as goal
 pub returns-then-branch : goal.returns-then-branch
 returns-then-branch c =
     let d = c.args.dictionary.now in
-    let ids = c.args.ids.items in
-    let all : HaveAll (length d.values) ids = subst (λ n. HaveAll n ids) c.count.ensures.count (subst (HaveAll c.count.result) c.as_slice.ensures.value (c.in_ok-have_all.ensures c.if-branch.true)) in
+    let ids = c.args.ids in
+    let all : HaveAll (length d.values) ids = subst (λ n. HaveAll n ids) c.count.ensures.count (c.in_ok-have_all.ensures c.if-branch.true) in
     record {
       coding = record { below = c.requires.below; are = own_values d.values ids c.count.ensures.valid.ascends c.requires.below all };
       kind_is = c.requires.kind;
@@ -24,13 +24,13 @@ returns-then-branch c =
 pub of_column-requires-clause-at_most : goal.of_column-requires-clause-at_most
 of_column-requires-clause-at_most c =
     let values : List Value = c.args.dictionary.now.values in
-    let ids = c.args.ids.items in
-    let are = c.in_ok-column.ensures ∙ ap (values_at values) c.as_slice-2.ensures.value in
+    let ids = c.args.ids in
+    let are = c.in_ok-column.ensures in
     omega (arith, ap length are, length-map ids (λ id. get_or values id (Whole (pos 0))), c.requires.at_most)
 
 pub of_column-requires-clause-fit : goal.of_column-requires-clause-fit
 of_column-requires-clause-fit c =
     let d = c.args.dictionary.now in
-    let are = c.in_ok-column.ensures ∙ ap (values_at d.values) c.as_slice-2.ensures.value in
+    let are = c.in_ok-column.ensures in
     subst (All (Fits c.args.kind)) (sym are)
-    (values_all (Fits c.args.kind) d.values c.args.ids.items (subst (λ k. All (Fits k) d.values) c.requires.kind c.count.ensures.valid.fit) c.requires.below)
+    (values_all (Fits c.args.kind) d.values c.args.ids (subst (λ k. All (Fits k) d.values) c.requires.kind c.count.ensures.valid.fit) c.requires.below)

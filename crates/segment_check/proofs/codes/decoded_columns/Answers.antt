@@ -1,6 +1,7 @@
 use Rattle.std.proofs.Common.{◌≡◌, ◌<◌, ◌∙◌, length, ap, arith, refl, subst}
 use Rattle.values.specs.Columns.{rows_of}
 use Rattle.value_ids.specs.Coding.{values_at}
+use Rattle.value_ids.specs.Dictionary.{Distinct}
 use Rattle.segment_check.proofs.IdLemmas.{AreValuesOf, values_counts, values_more, values_rows}
 use Rattle.segment_check.proofs.codes.decoded_columns.Goals as goal
 
@@ -11,7 +12,7 @@ columns-preserved c =
     let column = c.index-column.result.now in
     let lt : at < length coded.columns.items = omega (arith, c.columns-test.true, c.len-at-end.ensures) in
     values_more coded at column c.columns.columns.items c.push.new.self.items c.in_ok-column_of.field-0 lt c.index-column.ensures c.columns.invariant
-    (c.in_ok-column_of.ensures ∙ (λ i. values_at (c.dictionary-dictionary.ensures i).values (c.as_slice.ensures.value i))) c.in_ok-push.ensures.items
+    (c.in_ok-column_of.ensures ∙ ap (λ (d : Distinct). values_at d.values column.ids) c.dictionary-dictionary.ensures) c.in_ok-push.ensures.items
 
 pub new-requires : goal.new-requires
 new-requires c =

@@ -17,6 +17,7 @@ use Rattle.segment_check.proofs.IdLemmas.{AreRead, read_all, read_more, read_non
 use Rattle.segment_check.proofs.ColumnLemmas.{columns_have, columns_more, columns_none, counts_each}
 use Rattle.segment_check.proofs.HeadLemmas.{column_kind, few_rows, forward_placed}
 use Rattle.segment_check.proofs.RowLemmas.{dictionary_of_head, field_at, of_fields, own_dictionary}
+use Rattle.segment_check.proofs.Once.{columns_end, columns_next, columns_start}
 use Rattle.segment_check.proofs.codes.read_codes.Goals as goal
 
 pub read_column_codes-requires-clause-loaded : goal.read_column_codes-requires-clause-loaded
@@ -64,6 +65,7 @@ returns-in-Err g c =
           );
       only_reads = reads_err c.in-Err.fault old mid now c.columns.invariant.only_reads c.in-Err.ensures.reads.only_reads;
       log = λ file within. file_then file old.log mid.log now.log (c.columns.invariant.log file within) (c.in-Err.ensures.log file within);
+      once = columns_end c.args.table.now c.args.read.now.head (c.columns.at + 1) old.log now.log (columns_next c.args.table.now c.args.read.now.head c.columns.at old.log mid.log now.log (omega (arith, c.columns-test.true, ap length c.as_slice-fields.ensures)) c.columns.invariant.once c.in-Err.ensures.once);
     }
 
 pub columns-init : goal.columns-init
@@ -72,6 +74,7 @@ columns-init g c = record {
   columns = subst (λ xs. AreColumns (g.S.Shelf.held c.args.shelf.now) c.args.read.now.head 0 (map decoded xs)) (sym c.in_ok-columns.ensures.items) (columns_none (g.S.Shelf.held c.args.shelf.now) c.args.read.now.head);
   only_reads = reads_none (seen g.S.Shelf c.args.shelf.now);
   log = λ file within. file_unread file (g.S.Shelf.log c.args.shelf.now) (g.S.Shelf.log c.args.shelf.now) refl;
+  once = columns_start c.args.table.now c.args.read.now.head (g.S.Shelf.log c.args.shelf.now) (g.S.Shelf.log c.args.shelf.now) refl;
 }
 
 pub columns-preserved : goal.columns-preserved
@@ -95,6 +98,7 @@ columns-preserved g c =
           (λ d loaded. subst (λ h. IsColumn h head at d (decoded column).values) c.columns.invariant.only_reads.held (c.in-Ok.ensures.reads.column_is d loaded)));
       only_reads = reads_after ⊥ old mid now c.columns.invariant.only_reads (reads_well column mid now c.in-Ok.ensures.reads.only_reads);
       log = λ file within. file_then file old.log mid.log now.log (c.columns.invariant.log file within) (c.in-Ok.ensures.log file within);
+      once = columns_next c.args.table.now c.args.read.now.head c.columns.at old.log mid.log now.log (omega (arith, c.columns-test.true, ap length c.as_slice-fields.ensures)) c.columns.invariant.once c.in-Ok.ensures.once;
     }
 
 pub returns : goal.returns
@@ -122,6 +126,7 @@ returns g c =
       refused = tt;
       only_reads = reads_ended coded old mid c.columns.invariant.only_reads;
       log = c.columns.invariant.log;
+      once = columns_end c.args.table.now c.args.read.now.head c.columns.at old.log mid.log c.columns.invariant.once;
     }
 
 pub returns-in_err-keep_codes-in-Ok : goal.returns-in_err-keep_codes-in-Ok
@@ -140,6 +145,7 @@ returns-in_err-keep_codes-in-Ok g c =
       refused = growth_bad (λ p. (column : ℕ) × (p ≡ parts.Forward column) × FailsColumn table old.held head column) r.result r.ensures;
       only_reads = growth_reads r.result old now r.ensures (reads_after ⊥ old mid now c.columns.invariant.only_reads (reads_well c.in-Ok.column mid now c.in-Ok.ensures.reads.only_reads));
       log = λ file within. file_then file old.log mid.log now.log (c.columns.invariant.log file within) (c.in-Ok.ensures.log file within);
+      once = columns_end c.args.table.now c.args.read.now.head (c.columns.at + 1) old.log now.log (columns_next c.args.table.now c.args.read.now.head c.columns.at old.log mid.log now.log (omega (arith, c.columns-test.true, ap length c.as_slice-fields.ensures)) c.columns.invariant.once c.in-Ok.ensures.once);
     }
 
 pub returns-in_err-columns : goal.returns-in_err-columns
@@ -156,4 +162,5 @@ returns-in_err-columns g c =
       refused = growth_bad (λ p. (column : ℕ) × (p ≡ parts.Forward column) × FailsColumn table old.held head column) r.result r.ensures;
       only_reads = growth_reads r.result old old r.ensures (reads_none old);
       log = λ file within. file_unread file old.log old.log refl;
+      once = columns_end c.args.table.now c.args.read.now.head 0 old.log old.log (columns_start c.args.table.now c.args.read.now.head old.log old.log refl);
     }

@@ -8,5 +8,5 @@ use Rattle.segment_check.proofs.columns.column_of.Given as goal
 abbrev pub invariant-ids : goal.invariant-ids
 invariant-ids l = record {
   sort : l.column.are_texts ≡ is_of l.fn.kind (Text []);
-  values : l.column.values ≡ values_at l.dictionary.values (take l.id-index l.ids);
+  values : l.column.values ≡ values_at l.dictionary.values (take l.row l.ids);
 }

@@ -5,7 +5,7 @@ use Rattle.segment_file.proofs.Faults.{reads_other}
 use Rattle.segment_file.specs.declared.part.Part.TheVariants as parts
 use Rattle.segment_file.proofs.Counts.{few_sections}
 use Rattle.segment_build.specs.Coded.{columns_in}
-use Rattle.segment_build.specs.FileReads.{file_unread}
+use Rattle.segment_build.specs.FileReads.{file_unread, once_none}
 use Rattle.segment_build.specs.Made.{file_bytes}
 use Rattle.segment_check.proofs.Sameness.{image_small}
 use Rattle.segment_check.proofs.compare.compare.Goals as goal
@@ -27,6 +27,7 @@ returns-in-Err-TooLarge g c =
           inl (fails.tree, named, own.built.too_large fails.tree refl);
       only_reads = reads_other _ old old (λ e. cc) (reads_none old);
       log = file_unread c.args.file.now old.log old.log refl;
+      once = (0, once_none c.args.file.now 0 0 old.log old.log refl);
     }
 
 pub front_size-start-requires-clause-sections : goal.front_size-start-requires-clause-sections

@@ -7,10 +7,12 @@ use Rattle.segment_file.specs.Reading.{IsFrontOf, IsHeadCut}
 use Rattle.segment_file.specs.Rules.{FailsAt}
 use Rattle.segment_file.proofs.Faults.{growth_bad, growth_ok, growth_reads, reads_ended, reads_err, reads_handed, reads_other, reads_well}
 use Rattle.segment_file.proofs.Openings.{few_bytes}
-use Rattle.segment_build.specs.FileReads.{file_then, file_through, file_unread, file_up}
+use Rattle.segment_build.specs.FileReads.{LogsOnce, file_then, file_through, file_unread, file_up, once_none}
 use Rattle.segment_head.specs.Heads.{AreIn}
 use Rattle.segment_check.specs.Calls.{OfBytes}
-use Rattle.segment_check.specs.Reading.{IsFileHead, IsSomeHead}
+use Rattle.segment_build.proofs.OnceReads.{once_up}
+use Rattle.segment_check.specs.Reading.{IsFileHead, IsPlacedHead, IsSomeHead}
+use Rattle.segment_check.proofs.Once.{head_once}
 use Rattle.segment_check.proofs.HeadLemmas.{few_rows, head_fails, sections_in, told_file, told_head, untold}
 use Rattle.segment_check.proofs.head.read_file_head.Goals as goal
 
@@ -48,6 +50,9 @@ returns-in_err-parts g c =
       placed = growth_ok (λ read. AreIn file read.head.sections) c.from_residual.result c.from_residual.ensures;
       only_reads = growth_reads c.from_residual.result old old c.from_residual.ensures (reads_none old);
       log = file_unread file old.log old.log refl;
+      placed_is = growth_ok (IsPlacedHead table name file) c.from_residual.result c.from_residual.ensures;
+      once = (0, once_none file 0 0 old.log old.log refl);
+      once_head = growth_ok (λ read. LogsOnce file 0 (head_end table name read.front) old.log old.log) c.from_residual.result c.from_residual.ensures;
     }
 
 pub returns-in-Err : goal.returns-in-Err
@@ -64,6 +69,9 @@ returns-in-Err g c =
       placed = tt;
       only_reads = reads_handed c.in-Err.fault old (seen g.S.Shelf c.read_front.new.shelf) c.in-Err.ensures.only_reads;
       log = file_up file 0 (front_size table name) old.log (g.S.Shelf.log c.read_front.new.shelf) c.in-Err.ensures.log_of_fault;
+      placed_is = tt;
+      once = (front_size table name, once_up file 0 (front_size table name) old.log (g.S.Shelf.log c.read_front.new.shelf) c.in-Err.ensures.log_of_fault);
+      once_head = tt;
     }
 
 pub returns-in-Err-read_rest : goal.returns-in-Err-read_rest
@@ -83,6 +91,9 @@ returns-in-Err-read_rest g c =
       only_reads = reads_err c.in-Err-read_rest.fault old between (seen g.S.Shelf c.read_rest.new.shelf) (reads_well read old between c.in-Ok.ensures.only_reads) c.in-Err-read_rest.ensures.only_reads;
       log = file_then file old.log between.log (g.S.Shelf.log c.read_rest.new.shelf) (file_through file 0 (front_size table name) old.log between.log c.in-Ok.ensures.log)
           (file_up file (front_size table name) (head_end table name read.front) between.log (g.S.Shelf.log c.read_rest.new.shelf) c.in-Err-read_rest.ensures.log);
+      placed_is = tt;
+      once = (head_end table name read.front, head_once table name file read.front old.log between.log (g.S.Shelf.log c.read_rest.new.shelf) c.in-Ok.ensures.log c.in-Err-read_rest.ensures.log);
+      once_head = tt;
     }
 
 pub returns-in-Err-check_head : goal.returns-in-Err-check_head
@@ -108,6 +119,9 @@ returns-in-Err-check_head g c =
       only_reads = reads_other c.in-Err-check_head.fault old last (λ e. c.in-Err-check_head.ensures.read (ap Err e)) (reads_after ⊥ old between last (reads_well read old between c.in-Ok.ensures.only_reads) (reads_well c.in-Ok-read_rest.bytes between last c.in-Ok-read_rest.ensures.only_reads));
       log = file_then file old.log between.log last.log (file_through file 0 (front_size table name) old.log between.log c.in-Ok.ensures.log)
           (file_up file (front_size table name) (head_end table name front) between.log last.log c.in-Ok-read_rest.ensures.log);
+      placed_is = tt;
+      once = (head_end table name front, head_once table name file front old.log between.log last.log c.in-Ok.ensures.log c.in-Ok-read_rest.ensures.log);
+      once_head = tt;
     }
 
 pub returns : goal.returns
@@ -140,4 +154,7 @@ returns g c =
       only_reads = reads_ended _ old last (reads_after ⊥ old between last (reads_well read old between c.in-Ok.ensures.only_reads) (reads_well c.in-Ok-read_rest.bytes between last c.in-Ok-read_rest.ensures.only_reads));
       log = file_then file old.log between.log last.log (file_through file 0 (front_size table name) old.log between.log c.in-Ok.ensures.log)
           (file_up file (front_size table name) (head_end table name front) between.log last.log c.in-Ok-read_rest.ensures.log);
+      placed_is = record { placed = c.in-Ok-check_head.ensures.placed; each = is.front_is.each };
+      once = (head_end table name front, head_once table name file front old.log between.log last.log c.in-Ok.ensures.log c.in-Ok-read_rest.ensures.log);
+      once_head = head_once table name file front old.log between.log last.log c.in-Ok.ensures.log c.in-Ok-read_rest.ensures.log;
     }

@@ -6,8 +6,9 @@ use Rattle.values.specs.Columns.{rows_of}
 use Rattle.csv_text.specs.Coded.{listed, listed_columns}
 use Rattle.csv_text.specs.Rows.{rows_text}
 use Rattle.csv_text.specs.declared.coded.CodedColumn.{CodedColumn}
-use Rattle.segment_build.specs.FileReads.{file_then}
+use Rattle.segment_build.specs.FileReads.{at_most_once, file_then}
 use Rattle.segment_check.specs.Reading.{AreColumns, FailsColumn}
+use Rattle.segment_check.proofs.Once.{read_once}
 use Rattle.segment_check.proofs.Sameness.{ids_unspelled, rule_unspelled}
 use Rattle.segment_check.proofs.SpelledText.{text_spelled}
 use Rattle.segment_check.proofs.spell.spell_text.Goals as goal
@@ -20,6 +21,7 @@ returns-in-Err g c =
       refused = λ p is. rule_unspelled c.args.table.now c.args.name.now c.args.file.now old.held p (c.in-Err.ensures.refused p is);
       only_reads = reads_handed c.in-Err.fault old (seen g.S.Shelf c.read_file_head.new.shelf) c.in-Err.ensures.only_reads;
       log = c.in-Err.ensures.log;
+      once = at_most_once c.args.file.now 0 c.in-Err.ensures.once.0 old.log (g.S.Shelf.log c.read_file_head.new.shelf) c.in-Err.ensures.once.1;
     }
 
 pub returns-in-Err-read_coded : goal.returns-in-Err-read_coded
@@ -39,6 +41,7 @@ returns-in-Err-read_coded g c =
           ids_unspelled table name file old.held c.in-Ok.read f.0 p c.requires.valid c.requires.name first.told f.1 (subst (λ h. FailsColumn table h c.in-Ok.read.head f.0) first.only_reads.held f.2);
       only_reads = reads_err c.in-Err-read_coded.fault old mid last (reads_well c.in-Ok.read old mid first.only_reads) fails.only_reads;
       log = file_then file old.log mid.log last.log first.log (fails.log file first.placed);
+      once = read_once table name file c.in-Ok.read old mid last first.placed_is first.once_head fails.once;
     }
 
 pub returns-in-Ok-coded_text : goal.returns-in-Ok-coded_text
@@ -64,6 +67,7 @@ returns-in-Ok-coded_text g c =
       refused = tt;
       only_reads = reads_ended text old last (reads_after ⊥ old mid last (reads_well c.in-Ok.read old mid first.only_reads) (reads_well c.in-Ok-read_coded.columns mid last second.only_reads));
       log = file_then file old.log mid.log last.log first.log (second.log file first.placed);
+      once = read_once c.args.table.now c.args.name.now file c.in-Ok.read old mid last first.placed_is first.once_head second.once;
     }
 
 pub returns : goal.returns
@@ -79,4 +83,5 @@ returns g c =
       refused = λ p is. absurd cc;
       only_reads = reads_so _ _ old last (λ err. absurd cc) (λ err. absurd err) (reads_after ⊥ old mid last (reads_well c.in-Ok.read old mid first.only_reads) (reads_well c.in-Ok-read_coded.columns mid last second.only_reads));
       log = file_then file old.log mid.log last.log first.log (second.log file first.placed);
+      once = read_once c.args.table.now c.args.name.now file c.in-Ok.read old mid last first.placed_is first.once_head second.once;
     }

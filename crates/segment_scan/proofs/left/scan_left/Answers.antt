@@ -37,20 +37,6 @@ returns-in_err-check-clause-reads g c = record {
       err_is c.from_residual.result (LogsPartsPartly head named others c.args.docs.now log log) (no_parts head named others c.args.docs.now log c.requires.leaves.left.within);
 }
 
-pub returns-in_err-sure-clause-reads : goal.returns-in_err-sure-clause-reads
-returns-in_err-sure-clause-reads g c = record {
-  only_reads = search rules;
-  log = search rules;
-  log_of_fault =
-      let query = c.args.answered.now.query.now in
-      let table = c.args.answered.now.table.now in
-      let head : Seen = c.args.answered.now.head.now in
-      let log = g.S.Shelf.log c.args.shelf.now in
-      let named : List Bool = names_in (rest_for query table head) table in
-      let others : List Bool = names_in (sure_for query table head) table in
-      err_is c.from_residual-in_err-sure.result (LogsPartsPartly head named others c.args.docs.now log log) (no_parts head named others c.args.docs.now log c.requires.leaves.left.within);
-}
-
 pub returns-in_err-served-clause-reads : goal.returns-in_err-served-clause-reads
 returns-in_err-served-clause-reads g c = record {
   only_reads = search rules;
@@ -74,8 +60,8 @@ scan_part-requires-clause-within g c =
     let docs : List ℕ = c.args.docs.now in
     let unsure : List ℕ = c.args.unsure.now in
     let check : List ℕ = c.in_ok-check.check in
-    let sure : List ℕ = c.in_ok-sure.sure in
-    let parts : AreParts docs unsure check sure = record { checks = c.in_ok-check.ensures; sures = c.in_ok-sure.ensures } in
+    let sure : List ℕ = c.in_ok-check.sure in
+    let parts : AreParts docs unsure check sure = record { checks = c.in_ok-check.ensures.both; sures = c.in_ok-check.ensures.alone } in
     let f : PartsFit head.rows docs check sure = parts_fit docs unsure check sure head.rows c.requires.leaves.ascend c.requires.leaves.left.within parts in
     f.check_within
 
@@ -93,8 +79,8 @@ scan_part-requires-clause-scans g c = record {
       let docs : List ℕ = c.args.docs.now in
       let unsure : List ℕ = c.args.unsure.now in
       let check : List ℕ = c.in_ok-check.check in
-      let sure : List ℕ = c.in_ok-sure.sure in
-      let parts : AreParts docs unsure check sure = record { checks = c.in_ok-check.ensures; sures = c.in_ok-sure.ensures } in
+      let sure : List ℕ = c.in_ok-check.sure in
+      let parts : AreParts docs unsure check sure = record { checks = c.in_ok-check.ensures.both; sures = c.in_ok-check.ensures.alone } in
       let f : PartsFit head.rows docs check sure = parts_fit docs unsure check sure head.rows c.requires.leaves.ascend c.requires.leaves.left.within parts in
       at_most_more (groups_in (in_pool c.args.groups.now c.args.pool.now)) (most_values - head.rows) (most_values - length check) (omega (arith, f.count, f.at_most)) c.requires.scans.fits;
 }
@@ -108,8 +94,8 @@ scan_part-requires-2-clause-within g c =
     let docs : List ℕ = c.args.docs.now in
     let unsure : List ℕ = c.args.unsure.now in
     let check : List ℕ = c.in_ok-check.check in
-    let sure : List ℕ = c.in_ok-sure.sure in
-    let parts : AreParts docs unsure check sure = record { checks = c.in_ok-check.ensures; sures = c.in_ok-sure.ensures } in
+    let sure : List ℕ = c.in_ok-check.sure in
+    let parts : AreParts docs unsure check sure = record { checks = c.in_ok-check.ensures.both; sures = c.in_ok-check.ensures.alone } in
     let f : PartsFit head.rows docs check sure = parts_fit docs unsure check sure head.rows c.requires.leaves.ascend c.requires.leaves.left.within parts in
     f.sure_within
 
@@ -127,8 +113,8 @@ scan_part-requires-2-clause-scans g c = record {
       let docs : List ℕ = c.args.docs.now in
       let unsure : List ℕ = c.args.unsure.now in
       let check : List ℕ = c.in_ok-check.check in
-      let sure : List ℕ = c.in_ok-sure.sure in
-      let parts : AreParts docs unsure check sure = record { checks = c.in_ok-check.ensures; sures = c.in_ok-sure.ensures } in
+      let sure : List ℕ = c.in_ok-check.sure in
+      let parts : AreParts docs unsure check sure = record { checks = c.in_ok-check.ensures.both; sures = c.in_ok-check.ensures.alone } in
       let f : PartsFit head.rows docs check sure = parts_fit docs unsure check sure head.rows c.requires.leaves.ascend c.requires.leaves.left.within parts in
       at_most_more (groups_in (in_pool c.scan_part.new.groups c.scan_part.new.pool)) (most_values - head.rows + length check) (most_values - length sure) (omega (arith, f.count, f.at_most, c.requires.scans.of_table.at_most, c.requires.scans.of_table.has.rows_are))
       (c.in-Ok.ensures.ok.adds.fits (most_values - head.rows) c.requires.scans.fits);
@@ -143,8 +129,8 @@ returns-in-Err-clause-full g c = λ full.
     let docs : List ℕ = c.args.docs.now in
     let unsure : List ℕ = c.args.unsure.now in
     let check : List ℕ = c.in_ok-check.check in
-    let sure : List ℕ = c.in_ok-sure.sure in
-    let parts : AreParts docs unsure check sure = record { checks = c.in_ok-check.ensures; sures = c.in_ok-sure.ensures } in
+    let sure : List ℕ = c.in_ok-check.sure in
+    let parts : AreParts docs unsure check sure = record { checks = c.in_ok-check.ensures.both; sures = c.in_ok-check.ensures.alone } in
     let f : PartsFit head.rows docs check sure = parts_fit docs unsure check sure head.rows c.requires.leaves.ascend c.requires.leaves.left.within parts in
     check_full c.image_law.ensures c.index_law.ensures query table head c.requires.scans.valid c.requires.scans.of_table c.requires.scans.loaded docs held unsure check sure c.requires.leaves.left c.requires.leaves.unsure parts (in_pool c.args.groups.now c.args.pool.now)
     (subst (λ cs. IfSome held (λ files. IsOverfull query (selected_docs query cs files head (names_in (rest_of query cs) table) check) (in_pool c.args.groups.now c.args.pool.now))) c.requires.planned
@@ -162,8 +148,8 @@ returns-in-Err-clause-reads g c = record {
       let docs : List ℕ = c.args.docs.now in
       let unsure : List ℕ = c.args.unsure.now in
       let check : List ℕ = c.in_ok-check.check in
-      let sure : List ℕ = c.in_ok-sure.sure in
-      let parts : AreParts docs unsure check sure = record { checks = c.in_ok-check.ensures; sures = c.in_ok-sure.ensures } in
+      let sure : List ℕ = c.in_ok-check.sure in
+      let parts : AreParts docs unsure check sure = record { checks = c.in_ok-check.ensures.both; sures = c.in_ok-check.ensures.alone } in
       let f : PartsFit head.rows docs check sure = parts_fit docs unsure check sure head.rows c.requires.leaves.ascend c.requires.leaves.left.within parts in
       record {
         check = check;
@@ -175,6 +161,20 @@ returns-in-Err-clause-reads g c = record {
       };
 }
 
+pub overflow_add-result : goal.overflow_add-result
+overflow_add-result g c =
+    let query = c.args.answered.now.query.now in
+    let table = c.args.answered.now.table.now in
+    let head : Seen = c.args.answered.now.head.now in
+    let held : Option Files = g.S.Shelf.held c.args.shelf.now in
+    let docs : List ℕ = c.args.docs.now in
+    let unsure : List ℕ = c.args.unsure.now in
+    let check : List ℕ = c.in_ok-check.check in
+    let sure : List ℕ = c.in_ok-check.sure in
+    let parts : AreParts docs unsure check sure = record { checks = c.in_ok-check.ensures.both; sures = c.in_ok-check.ensures.alone } in
+    let f : PartsFit head.rows docs check sure = parts_fit docs unsure check sure head.rows c.requires.leaves.ascend c.requires.leaves.left.within parts in
+    omega (arith, c.len.ensures, c.len-in-Ok-scan_part.ensures, f.count, f.at_most, c.requires.scans.of_table.at_most, c.requires.scans.of_table.has.rows_are)
+
 pub overflow_cast-result : goal.overflow_cast-result
 overflow_cast-result g c =
     let query = c.args.answered.now.query.now in
@@ -184,10 +184,10 @@ overflow_cast-result g c =
     let docs : List ℕ = c.args.docs.now in
     let unsure : List ℕ = c.args.unsure.now in
     let check : List ℕ = c.in_ok-check.check in
-    let sure : List ℕ = c.in_ok-sure.sure in
-    let parts : AreParts docs unsure check sure = record { checks = c.in_ok-check.ensures; sures = c.in_ok-sure.ensures } in
+    let sure : List ℕ = c.in_ok-check.sure in
+    let parts : AreParts docs unsure check sure = record { checks = c.in_ok-check.ensures.both; sures = c.in_ok-check.ensures.alone } in
     let f : PartsFit head.rows docs check sure = parts_fit docs unsure check sure head.rows c.requires.leaves.ascend c.requires.leaves.left.within parts in
-    omega (arith, c.len.ensures, f.at_most, c.requires.scans.of_table.at_most, c.requires.scans.of_table.has.rows_are)
+    omega (arith, c.len.ensures, c.len-in-Ok-scan_part.ensures, f.count, f.at_most, c.requires.scans.of_table.at_most, c.requires.scans.of_table.has.rows_are)
 
 pub returns-in-Ok-scan_part-clause-count : goal.returns-in-Ok-scan_part-clause-count
 returns-in-Ok-scan_part-clause-count g c =
@@ -198,10 +198,11 @@ returns-in-Ok-scan_part-clause-count g c =
     let docs : List ℕ = c.args.docs.now in
     let unsure : List ℕ = c.args.unsure.now in
     let check : List ℕ = c.in_ok-check.check in
-    let sure : List ℕ = c.in_ok-sure.sure in
-    let parts : AreParts docs unsure check sure = record { checks = c.in_ok-check.ensures; sures = c.in_ok-sure.ensures } in
+    let sure : List ℕ = c.in_ok-check.sure in
+    let parts : AreParts docs unsure check sure = record { checks = c.in_ok-check.ensures.both; sures = c.in_ok-check.ensures.alone } in
     let f : PartsFit head.rows docs check sure = parts_fit docs unsure check sure head.rows c.requires.leaves.ascend c.requires.leaves.left.within parts in
-    subst (AreDocs query table held head) (sym c.len.ensures) (left_docs c.image_law.ensures c.index_law.ensures query table head c.requires.scans.valid c.requires.scans.of_table c.requires.scans.loaded docs held c.requires.leaves.left f.at_most)
+    let total : c.len.result + c.len-in-Ok-scan_part.result ≡ length docs = omega (arith, c.len.ensures, c.len-in-Ok-scan_part.ensures, f.count) in
+    subst (AreDocs query table held head) (sym total) (left_docs c.image_law.ensures c.index_law.ensures query table head c.requires.scans.valid c.requires.scans.of_table c.requires.scans.loaded docs held c.requires.leaves.left f.at_most)
 
 pub returns-in-Ok-scan_part-clause-ok : goal.returns-in-Ok-scan_part-clause-ok
 returns-in-Ok-scan_part-clause-ok g c =
@@ -212,8 +213,8 @@ returns-in-Ok-scan_part-clause-ok g c =
     let docs : List ℕ = c.args.docs.now in
     let unsure : List ℕ = c.args.unsure.now in
     let check : List ℕ = c.in_ok-check.check in
-    let sure : List ℕ = c.in_ok-sure.sure in
-    let parts : AreParts docs unsure check sure = record { checks = c.in_ok-check.ensures; sures = c.in_ok-sure.ensures } in
+    let sure : List ℕ = c.in_ok-check.sure in
+    let parts : AreParts docs unsure check sure = record { checks = c.in_ok-check.ensures.both; sures = c.in_ok-check.ensures.alone } in
     let f : PartsFit head.rows docs check sure = parts_fit docs unsure check sure head.rows c.requires.leaves.ascend c.requires.leaves.left.within parts in
     let served : c.as_slice-served.result.now ≡ sure_choices (choices_for query table head) = c.as_slice-served.ensures.value ∙ c.in_ok-served.ensures ∙ ap sure_choices c.requires.planned in
     let same : g.S.Shelf.held c.scan_part.new.shelf ≡ held = c.in-Ok.ensures.reads.only_reads.held in
@@ -234,8 +235,8 @@ returns-in-Ok-scan_part-clause-reads g c = record {
       let docs : List ℕ = c.args.docs.now in
       let unsure : List ℕ = c.args.unsure.now in
       let check : List ℕ = c.in_ok-check.check in
-      let sure : List ℕ = c.in_ok-sure.sure in
-      let parts : AreParts docs unsure check sure = record { checks = c.in_ok-check.ensures; sures = c.in_ok-sure.ensures } in
+      let sure : List ℕ = c.in_ok-check.sure in
+      let parts : AreParts docs unsure check sure = record { checks = c.in_ok-check.ensures.both; sures = c.in_ok-check.ensures.alone } in
       let f : PartsFit head.rows docs check sure = parts_fit docs unsure check sure head.rows c.requires.leaves.ascend c.requires.leaves.left.within parts in
       let served : c.as_slice-served.result.now ≡ sure_choices (choices_for query table head) = c.as_slice-served.ensures.value ∙ c.in_ok-served.ensures ∙ ap sure_choices c.requires.planned in
       record {
@@ -260,8 +261,8 @@ returns-clause-full g c = λ full.
     let docs : List ℕ = c.args.docs.now in
     let unsure : List ℕ = c.args.unsure.now in
     let check : List ℕ = c.in_ok-check.check in
-    let sure : List ℕ = c.in_ok-sure.sure in
-    let parts : AreParts docs unsure check sure = record { checks = c.in_ok-check.ensures; sures = c.in_ok-sure.ensures } in
+    let sure : List ℕ = c.in_ok-check.sure in
+    let parts : AreParts docs unsure check sure = record { checks = c.in_ok-check.ensures.both; sures = c.in_ok-check.ensures.alone } in
     let f : PartsFit head.rows docs check sure = parts_fit docs unsure check sure head.rows c.requires.leaves.ascend c.requires.leaves.left.within parts in
     let served : c.as_slice-served.result.now ≡ sure_choices (choices_for query table head) = c.as_slice-served.ensures.value ∙ c.in_ok-served.ensures ∙ ap sure_choices c.requires.planned in
     let same : g.S.Shelf.held c.scan_part.new.shelf ≡ held = c.in-Ok.ensures.reads.only_reads.held in
@@ -281,8 +282,8 @@ returns-clause-bad g c = λ part bad.
     let docs : List ℕ = c.args.docs.now in
     let unsure : List ℕ = c.args.unsure.now in
     let check : List ℕ = c.in_ok-check.check in
-    let sure : List ℕ = c.in_ok-sure.sure in
-    let parts : AreParts docs unsure check sure = record { checks = c.in_ok-check.ensures; sures = c.in_ok-sure.ensures } in
+    let sure : List ℕ = c.in_ok-check.sure in
+    let parts : AreParts docs unsure check sure = record { checks = c.in_ok-check.ensures.both; sures = c.in_ok-check.ensures.alone } in
     let f : PartsFit head.rows docs check sure = parts_fit docs unsure check sure head.rows c.requires.leaves.ascend c.requires.leaves.left.within parts in
     let served : c.as_slice-served.result.now ≡ sure_choices (choices_for query table head) = c.as_slice-served.ensures.value ∙ c.in_ok-served.ensures ∙ ap sure_choices c.requires.planned in
     let same : g.S.Shelf.held c.scan_part.new.shelf ≡ held = c.in-Ok.ensures.reads.only_reads.held in
@@ -306,8 +307,8 @@ returns-clause-reads g c = record {
       let docs : List ℕ = c.args.docs.now in
       let unsure : List ℕ = c.args.unsure.now in
       let check : List ℕ = c.in_ok-check.check in
-      let sure : List ℕ = c.in_ok-sure.sure in
-      let parts : AreParts docs unsure check sure = record { checks = c.in_ok-check.ensures; sures = c.in_ok-sure.ensures } in
+      let sure : List ℕ = c.in_ok-check.sure in
+      let parts : AreParts docs unsure check sure = record { checks = c.in_ok-check.ensures.both; sures = c.in_ok-check.ensures.alone } in
       let f : PartsFit head.rows docs check sure = parts_fit docs unsure check sure head.rows c.requires.leaves.ascend c.requires.leaves.left.within parts in
       let served : c.as_slice-served.result.now ≡ sure_choices (choices_for query table head) = c.as_slice-served.ensures.value ∙ c.in_ok-served.ensures ∙ ap sure_choices c.requires.planned in
       record {

@@ -1,7 +1,7 @@
 use Rattle.std.proofs.Common.{rules, ◌≡◌, ◌∙◌, ℕ, List, [], Option, Some, Result, Ok, Err, None, IfOk, IsErrOf, inl, inr, length, ap, sym, subst, arith}
 use Rattle.std.proofs.lemmas.Result.{IfOk-weaker}
 use Rattle.std.specs.List.Sorted.{IsStrictlyIncreasing}
-use Rattle.doc_lists.proofs.Runs.{docs_increase}
+use Rattle.doc_lists.proofs.SetSteps.{kept_increase}
 use Rattle.outside.specs.Files.{Files}
 use Rattle.outside.specs.Reads.{Entry}
 use Rattle.table_schema.specs.declared.query.Conjunct.{Conjunct}
@@ -188,7 +188,7 @@ scan_left-requires-clause-leaves g c =
     let conjuncts : c.as_slice-conjuncts.result.now ≡ query.conjuncts = c.as_slice-conjuncts.ensures in
     record {
       left = subst (λ h. AreLeftFor query table h head docs) (sym same) (left_some held head cs (choices_for query table head) c.as_slice-conjuncts.result.now query.conjuncts c.in-Ok.docs docs choices conjuncts c.in-Some.is c.in-Ok.ensures.docs);
-      ascend = subst IsStrictlyIncreasing c.docs.view_is (docs_increase c.docs.inside.runs.items c.docs.invariant.apart);
+      ascend = subst IsStrictlyIncreasing c.docs.view_is (kept_increase c.docs.inside.kept c.docs.invariant);
       unsure = subst (λ h. HasUnsureFor query table h head unsure) (sym same) (subst (λ l. HasUnsure held head l query.conjuncts (length query.conjuncts) unsure) choices (subst (λ l. HasUnsure held head cs l (length l) unsure) conjuncts c.in-Ok.ensures.unsure));
     }
 

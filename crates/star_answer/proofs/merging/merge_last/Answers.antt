@@ -37,7 +37,7 @@ merge_row-requires-clause-kinds c =
     let t = c.args.selected.now in
     let at = c.loop-at.at in
     let lt : at < length t.docs = omega (arith, c.loop-at-test.true, c.len-at-end.ensures.count) in
-    ap kinds_of c.in_ok-states.ensures
+    ap kinds_of c.in_ok-fill_states.ensures
     ∙ (shape_at t.dims t.kinds t.docs at c.len-at-end.ensures.shape lt).1
     ∙ sym (c.loop-at.invariant.adds.kinds ∙ c.requires.merges.kinds)
 
@@ -46,7 +46,7 @@ merge_row-requires-clause-values c some =
     let docs = c.args.selected.now.docs in
     let at = c.loop-at.at in
     let lt : at < length docs = omega (arith, c.loop-at-test.true, c.len-at-end.ensures.count) in
-    subst HaveValues (sym c.in_ok-states.ensures) (steps.values_stored (doc_at docs at).1
+    subst HaveValues (sym c.in_ok-fill_states.ensures) (steps.values_stored (doc_at docs at).1
     (stored_at docs at c.len-at-end.ensures.stored lt))
 
 pub merge_row-requires-clause-fits : goal.merge_row-requires-clause-fits
@@ -58,10 +58,10 @@ merge_row-requires-clause-fits c =
     let le : from ≤ at = omega (arith, c.loop-at.auto.at) in
     let e = doc_at docs at in
     let es = keyed c.args.columns.now (upto docs from at) in
-    let fits : RowFits c.in_ok-states.states (row_weight e.1) =
-    subst (λ (s : List AggState). RowFits s (row_weight e.1)) (sym c.in_ok-states.ensures)
+    let fits : RowFits c.fill_states.new.states (row_weight e.1) =
+    subst (λ (s : List AggState). RowFits s (row_weight e.1)) (sym c.in_ok-fill_states.ensures)
     (steps.fits_stored e.1 (stored_at docs at c.len-at-end.ensures.stored lt)) in
-    merged_within _ c.in_ok-key.key c.in_ok-states.states (row_weight e.1)
+    merged_within _ c.in_ok-key.key c.fill_states.new.states (row_weight e.1)
     (steps.few_there docs from at le lt c.requires.merges.weight_fits)
     (steps.room_there docs from at le lt es (in_pool c.args.groups.now c.args.pool.now) (in_pool c.loop-at.groups c.loop-at.pool) c.requires.merges.weight_fits
     c.requires.merges.fits c.loop-at.invariant.adds) fits
@@ -85,9 +85,9 @@ loop-at-preserved c =
     let lt : at < length docs = omega (arith, c.loop-at-test.true, c.len-at-end.ensures.count) in
     let le : from ≤ at = omega (arith, c.loop-at.auto.at) in
     record {
-      adds = steps.merged_more docs from at le lt c.args.columns.now c.in_ok-key.key c.in_ok-states.states
+      adds = steps.merged_more docs from at le lt c.args.columns.now c.in_ok-key.key c.fill_states.new.states
           (in_pool c.args.groups.now c.args.pool.now) (in_pool c.loop-at.groups c.loop-at.pool) (in_pool c.merge_row.new.self c.merge_row.new.pool) c.in_ok-key.ensures
-          c.in_ok-states.ensures (stored_at docs at c.len-at-end.ensures.stored lt) c.loop-at.invariant.adds c.in_default.ensures.ok;
+          c.in_ok-fill_states.ensures (stored_at docs at c.len-at-end.ensures.stored lt) c.loop-at.invariant.adds c.in_default.ensures.ok;
       stays = stays_both c.args.groups.now c.loop-at.groups c.merge_row.new.self c.args.pool.now c.loop-at.pool c.merge_row.new.pool c.loop-at.invariant.stays c.merge_row.ensures.stays;
     }
 

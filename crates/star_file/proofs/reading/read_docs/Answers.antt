@@ -24,9 +24,8 @@ docs_from-requires-clause-width g c =
     let to = c.args.to in
     let w = c.width_of-width.result in
     let s = steps.span w from to c.requires.order in
-    let l = ap length c.as_slice.ensures in
     let e = c.in-Ok.ensures.size in
-    let n : length c.as_slice.result.now ≡ (to - from) * w = omega (arith, s, l, e) in
+    let n : length c.in-Ok.bytes ≡ (to - from) * w = omega (arith, s, e) in
     n ∙ ap (λ k. (to - from) * k) c.width_of-width.ensures.value
 
 pub returns-clause-docs : goal.returns-clause-docs
@@ -40,10 +39,10 @@ returns-clause-docs g c =
     subst (λ k. c.args.to * k ≤ place.length) c.width_of-width.ensures.value
     (omega (arith, c.if-end-place.false)) in
     let part = steps.part_at held c.as_str.result.now place.file place.offset c.args.from
-    c.args.to w c.width_of-width.result c.in-Ok.bytes c.as_slice.result.now c.as_str.ensures
-    c.as_slice.ensures c.width_of-width.ensures.value c.in-Ok.ensures.part in
+    c.args.to w c.width_of-width.result c.in-Ok.bytes c.in-Ok.bytes c.as_str.ensures
+    refl c.width_of-width.ensures.value c.in-Ok.ensures.part in
     IfOk-weaker c.docs_from.result _ _ (λ table h.
-    steps.docs_read place s c.args.counts.now c.args.from c.args.to c.as_slice.result.now some
+    steps.docs_read place s c.args.counts.now c.args.from c.args.to c.in-Ok.bytes some
     within
     held part table.docs h) c.docs_from.ensures.docs
 
@@ -51,7 +50,7 @@ pub returns-clause-number : goal.returns-clause-number
 returns-clause-number g c =
     IfOk-weaker c.docs_from.result _ _ (λ table h.
     steps.as_many c.args.shape.now c.args.counts.now (c.args.to - c.args.from)
-    c.as_slice.result.now table.docs h) c.docs_from.ensures.docs
+    c.in-Ok.bytes table.docs h) c.docs_from.ensures.docs
 
 pub returns-clause-log_of_fault : goal.returns-clause-log_of_fault
 returns-clause-log_of_fault g c =
@@ -80,7 +79,7 @@ returns-clause-bad g c bad =
     subst (λ k. c.args.to * k ≤ place.length) c.width_of-width.ensures.value
     (omega (arith, c.if-end-place.false)) in
     let part = steps.part_at held c.as_str.result.now place.file place.offset c.args.from
-    c.args.to w c.width_of-width.result c.in-Ok.bytes c.as_slice.result.now c.as_str.ensures
-    c.as_slice.ensures c.width_of-width.ensures.value c.in-Ok.ensures.part in
-    steps.docs_bad place s c.args.counts.now c.args.from c.args.to c.as_slice.result.now some within
+    c.args.to w c.width_of-width.result c.in-Ok.bytes c.in-Ok.bytes c.as_str.ensures
+    refl c.width_of-width.ensures.value c.in-Ok.ensures.part in
+    steps.docs_bad place s c.args.counts.now c.args.from c.args.to c.in-Ok.bytes some within
     held part (c.docs_from.ensures.refused.bad bad)

@@ -1,6 +1,4 @@
-use Rattle.std.proofs.Common.{◌<◌, ◌++◌, [], length, arith, refl}
-use Rattle.state_columns.specs.Docs.{Doc, doc_at}
-use Rattle.star_file.specs.Bytes.{words, state_bytes, doc_bytes}
+use Rattle.std.proofs.Common.{arith}
 use Rattle.star_file.proofs.Ranges.{range_more, range_none}
 use Rattle.star_file.proofs.writing.push_docs.Goals as goal
 

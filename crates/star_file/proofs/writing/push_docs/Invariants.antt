@@ -1,4 +1,4 @@
-use Rattle.std.proofs.Common.{◌≡◌, ◌++◌, take}
+use Rattle.std.proofs.Common.{◌≡◌, ◌++◌}
 use Rattle.state_columns.specs.Region.{range}
 use Rattle.star_file.specs.Bytes.{doc_bytes}
 use Rattle.star_file.proofs.writing.push_docs.Given as goal

@@ -1,4 +1,4 @@
-use Rattle.std.proofs.Common.{◌++◌, ◌∙◌, OnOk, ap}
+use Rattle.std.proofs.Common.{◌++◌, ◌∙◌, ap}
 use Rattle.star_file.specs.Bytes.{doc_bytes}
 use Rattle.star_file.proofs.Ranges.{on_ok_then, range_all}
 use Rattle.star_file.proofs.writing.write_docs.Goals as goal

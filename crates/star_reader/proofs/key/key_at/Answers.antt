@@ -28,6 +28,6 @@ loop-i-preserved c =
     sym (get_or_from_slice_get column.values.now.values c.dim-id.result c.in_ok-value_at.field-0
     (Whole (pos 0)) c.in_ok-value_at.ensures)
     ∙ ap (value_of column) c.dim-id.ensures in
-    c.in_ok-push.ensures.ok ∙ (λ j. c.loop-i.invariant j ++ value j ∷ [])
+    c.in_ok-push.ensures.items ∙ (λ j. c.loop-i.invariant j ++ value j ∷ [])
     ∙ sym (key_value columns ids i c.index-columns-i.result star c.requires.ids c.loop-i-test.true)
     ∙ ap (λ n. key_values (take n columns) ids) next

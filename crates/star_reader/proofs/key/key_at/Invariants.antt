@@ -4,4 +4,4 @@ use Rattle.star_reader.specs.Selected.{key_values}
 use Rattle.star_reader.proofs.key.key_at.Given as goal
 
 abbrev pub invariant-loop-i : goal.invariant-loop-i
-invariant-loop-i l = l.key ≡ key_values (take l.i l.columns) (doc_at l.selected.docs l.at).0
+invariant-loop-i l = l.key.items ≡ key_values (take l.i l.columns) (doc_at l.selected.docs l.at).0

@@ -1,5 +1,5 @@
-use Rattle.std.proofs.Common.{◌≡◌, ◌∙◌, Err, Ok, ℕ, List, ap, subst}
-use Rattle.outside.specs.Files.{Has, Lacks, without_file}
+use Rattle.std.proofs.Common.{◌≡◌, ◌∙◌, Err, Ok, ap, subst}
+use Rattle.outside.specs.Files.{Lacks}
 use Rattle.segment_file.specs.Names.{file_of}
 use Rattle.table_store.specs.Segments.{HasSegment}
 use Rattle.table_store.proofs.DropLemmas.{gone_already}
