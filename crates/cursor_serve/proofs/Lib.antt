@@ -1,0 +1,2 @@
+mod FetchLemmas
+mod SoundLemmas
