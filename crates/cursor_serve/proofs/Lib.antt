@@ -1,2 +1,3 @@
 mod FetchLemmas
 mod SoundLemmas
+mod ServingLemmas

@@ -472,7 +472,7 @@ below_end (list ∷ lists) number name version found =
       | false ↦ λ is. let lt : version.number < number + 1 + length lists = below_end lists (number + 1) name version is in omega (arith, lt)
     ] found
 
-no_cursor : {A : Type 0} (name : List ℕ) (cursor : Cursor) → finite.get (finite.empty {X = Cursor} {R = name_order}) name ≡ Some cursor → A
+pub no_cursor : {A : Type 0} (name : List ℕ) (cursor : Cursor) → finite.get (finite.empty {X = Cursor} {R = name_order}) name ≡ Some cursor → A
 no_cursor name cursor got = let e : None ≡ Some cursor = sym (finite.get-empty name_order name) ∙ got in absurd cc
 
 pub starts_sound : StartsSound

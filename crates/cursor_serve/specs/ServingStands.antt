@@ -4,6 +4,7 @@ use Rattle.std.specs.FinMap as finite
 use Rattle.std.specs.List.{list_any}
 use Rattle.std.specs.Ordering.{eq_by_cmp}
 use Rattle.outside.specs.Files.{Files, name_order}
+use Rattle.values.specs.declared.value.Value.{Value}
 use Rattle.table_schema.specs.Conditions.{all_hold}
 use Rattle.table_schema.specs.declared.query.BoundQuery.{BoundQuery}
 use Rattle.table_schema.specs.declared.table.Table.{Table}
@@ -16,7 +17,7 @@ use Rattle.table_store.specs.Kept.{IsKeptName, kept_name}
 use Rattle.table_store.specs.Stands.{Stands}
 use Rattle.table_store.specs.State.{HasTable, Segment, Segments, Texts}
 use Rattle.cursor_serve.specs.Sound.{IsSound}
-use Rattle.cursor_serve.specs.Machine.{Cursor, KeptList, Listed, Live, Machine, Version, rows_of}
+use Rattle.cursor_serve.specs.Machine.{Cursor, KeptList, Listed, Live, Machine, Version, rows_of, started}
 
 -- ---- what is kept
 
@@ -116,3 +117,13 @@ pub record ServingStands (serving : List OpenCursor) (files : Files) (texts : Te
   pub kept : (file : List ℕ) → IsKeptName file
       → finite.contains_key files file
       ≡ list_any (λ k. eq_by_cmp name_order file (kept_name k.listed.name k.line)) m.kept
+
+-- at the start no cursor is kept: where a store stands for these lists, and has no kept file, it
+-- stands for the start of the machine
+abbrev pub StartStands : Type 0
+StartStands =
+    (files : Files) (texts : Texts) (table : Table) (lists : List (List ℕ × List (List Value)))
+    → IsAccepted texts table
+    → Stands files (HasTable texts (segments_of (started lists).live))
+    → ((file : List ℕ) → IsKeptName file → finite.get files file ≡ None)
+    → ServingStands [] files texts table (started lists)

@@ -1,5 +1,6 @@
 //! Laws of what cursors print. Each is the contract of a function that does nothing.
 ghost use Rattle.cursor_serve.specs.Laws.{FetchedOwn};
+ghost use Rattle.cursor_serve.specs.ServingStands.{StartStands};
 ghost use Rattle.cursor_serve.specs.Sound.{StartsSound, StaysSound};
 
 /// A cursor prints the reply of its own query over the lists that were live at its open, whatever
@@ -18,4 +19,10 @@ pub fn sound_law()
 /// The machine starts in a sound state, whatever lists are live.
 pub fn sound_start_law()
     ensures { StartsSound }
+{}
+
+/// A store that stands for lists and has no kept file stands, with no cursor kept, for the start of
+/// the machine.
+pub fn start_stands_law()
+    ensures { StartStands }
 {}

@@ -5,4 +5,4 @@
 
 mod laws;
 
-pub use laws::{fetched_law, sound_law, sound_start_law};
+pub use laws::{fetched_law, sound_law, sound_start_law, start_stands_law};
