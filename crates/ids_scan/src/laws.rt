@@ -1,0 +1,14 @@
+//! Laws of scans by ids. Each is the contract of a function that does nothing.
+ghost use Rattle.ids_scan.specs.Reads.{IdsReadAlike};
+
+use segment_plan::head_tells_law;
+use segment_scan::image_law;
+
+/// On the image of rows, those that are read by the ids of a column agree with the rows that satisfy
+/// the filter.
+pub fn ids_read_law()
+    ensures { IdsReadAlike }
+{
+    head_tells_law();
+    image_law();
+}

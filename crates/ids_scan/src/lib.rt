@@ -1,0 +1,7 @@
+//! The scan of a segment for a query that tests a column alone: by the ids of its values, so that
+//! these are not read.
+#![tactic(auto)]
+
+mod laws;
+
+pub use laws::ids_read_law;
