@@ -74,6 +74,15 @@ other_loaded head column d c apart loaded = (loaded.0, slice_get-set_other head.
 
 -- ---- a whole head
 
+slots_self : {A : Type 0} (xs : List (Option A)) → AllZip IsSlotOf xs xs
+slots_self [] = tt
+slots_self (None ∷ xs) = (tt, slots_self xs)
+slots_self (Some x ∷ xs) = (refl, slots_self xs)
+
+-- it is a part of itself
+pub part_self : (whole : Seen) → IsPartOf whole whole
+part_self whole = record { rows_same = refl; sections_same = refl; bounds_same = refl; slots = slots_self whole.dictionaries; tree_slots = slots_self whole.trees }
+
 spelled_there : (table : Table) (rows : ℕ) (heads : List (List ℕ)) (columns : List ℕ) (ds : List Distinct) (k : ℕ) → AreSpelled table rows heads columns ds → k < length columns → (d : Distinct) × (slice_get (map Some ds) k ≡ Some (Some d))
 spelled_there table rows heads [] ds k all lt = absurd (omega (arith, lt))
 spelled_there table rows heads (c ∷ cs) [] k all lt = absurd all

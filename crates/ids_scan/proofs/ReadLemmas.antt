@@ -28,7 +28,6 @@ use Rattle.segment_file.specs.Image.{dictionary_of}
 use Rattle.segment_file.specs.Ordered.{ordered}
 use Rattle.segment_head.specs.Heads.{IsHeadOf, IsLoaded, Seen, with_dictionary}
 use Rattle.segment_head.specs.Stored.{IsOfImage}
-use Rattle.segment_opening.proofs.EmptyLemmas.{part_self}
 use Rattle.segment_plan.specs.Laws.{HeadTells, TellsOf}
 use Rattle.segment_plan.specs.Matched.{count_in, values_in}
 use Rattle.segment_plan.specs.Named.{AreNamedLoaded, agg_names, conjunct_names, is_in, names_in, query_names}
@@ -39,7 +38,7 @@ use Rattle.segment_scan.specs.Scans.{column_read, columns_read, table_read, valu
 use Rattle.segment_scan.proofs.ImageLemmas.{columns_few, item_there}
 use Rattle.ids_scan.specs.ByIds.{IsByIds, IsFoundOf, IsTestedAlone, ids_below, numbers_below, unfiltered, with_ids}
 use Rattle.ids_scan.specs.Reads.{IdsReadAlike, IsAskedOf, ReadAlike}
-use Rattle.ids_scan.proofs.HeadLemmas.{other_loaded, other_values, set_head, set_loaded, set_part, set_values, whole_loaded}
+use Rattle.ids_scan.proofs.HeadLemmas.{other_loaded, other_values, part_self, set_head, set_loaded, set_part, set_values, whole_loaded}
 
 -- ---- the rows of columns
 
@@ -99,7 +98,7 @@ module _ (named : ℕ → Bool) (p q : List Value → Bool) where
 
 -- a query that tests a column alone names that, and no other than it names without its filter
 module _ (query : BoundQuery) (column : ℕ) (test : Test) (alone : IsTestedAlone query column test) where
-  names_of : (c : ℕ) → query_names query c ≡ ((((column == c) || false) || is_in query.groups c) || list_any (agg_names c) query.aggs)
+  pub names_of : (c : ℕ) → query_names query c ≡ ((((column == c) || false) || is_in query.groups c) || list_any (agg_names c) query.aggs)
   names_of c = (λ i. list_any (conjunct_names c) (alone.only i) || is_in query.groups c || list_any (agg_names c) query.aggs)
 
   pub own_named : query_names query column ≡ true
@@ -140,17 +139,17 @@ module _ (query : BoundQuery) (column : ℕ) (test : Test) (alone : IsTestedAlon
 
 module _ (read : ImagesRead) (tells_law : HeadTells) (query asked : BoundQuery) (table : Table) (files : Files) (rows : List (List Value)) (head : Seen) (column : ℕ) (test : Test) (count : ℕ) (ids : List ℕ)
     (a : IsAskedOf query asked table files rows head column test count ids) where
-  abbrev os : List (List Value)
+  abbrev pub os : List (List Value)
   os = ordered table.settings.sorted rows
 
-  abbrev d : Distinct
+  abbrev pub d : Distinct
   d = dictionary_of table os column
 
   -- the head with the dictionary of the column, which is not loaded
   abbrev pub full : Seen
   full = with_dictionary column d head
 
-  abbrev given : Seen
+  abbrev pub given : Seen
   given = with_ids column count head
 
   whole_has : slice_get a.image.whole.dictionaries column ≡ Some (Some d)
@@ -189,13 +188,13 @@ module _ (read : ImagesRead) (tells_law : HeadTells) (query asked : BoundQuery) 
   pub given_count : count_in given column ≡ count
   given_count = ap length given_values ∙ length-map (range_with_len 0 count) (λ n. Whole (pos n)) ∙ length-range_with_len 0 count
 
-  full_values : values_in full column ≡ d.values
+  pub full_values : values_in full column ≡ d.values
   full_values = set_values table head column a.of_table a.within d
 
   pub full_count : count_in full column ≡ count
   full_count = ap length full_values ∙ sym a.found.count_is
 
-  others_same : (c : ℕ) → c ≢ column → values_in given c ≡ values_in full c
+  pub others_same : (c : ℕ) → c ≢ column → values_in given c ≡ values_in full c
   others_same c apart = other_values head column (ids_below count) c apart ∙ sym (other_values head column d c apart)
 
   abbrev own_ids : List ℕ

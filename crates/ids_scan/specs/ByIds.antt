@@ -1,5 +1,5 @@
 -- Queries that test a column alone, and the same asked by the ids of its values.
-use Rattle.std.specs.Prelude.{◌≡◌, ℕ, pos, false, List, [], ◌∷◌, map, length}
+use Rattle.std.specs.Prelude.{◌≡◌, ℕ, pos, false, List, [], ◌∷◌, map, length, slice_get}
 use Rattle.std.specs.List.{range_with_len}
 use Rattle.data_types.specs.declared.kind.FieldKind.TheVariants.{Long}
 use Rattle.values.specs.declared.value.Value.{Value}
@@ -10,9 +10,12 @@ use Rattle.value_ids.specs.Dictionary.{Distinct}
 use Rattle.value_ids.specs.Ids.{has_id, matching}
 use Rattle.table_schema.specs.declared.query.BoundQuery.{BoundQuery}
 use Rattle.table_schema.specs.declared.query.Conjunct.TheVariants.{One}
+use Rattle.table_schema.specs.NeedIds.{is_set}
+use Rattle.table_schema.specs.declared.settings.Settings.{Settings}
 use Rattle.table_schema.specs.declared.table.Table.{Table}
 use Rattle.segment_file.specs.Image.{dictionary_of}
 use Rattle.segment_head.specs.Heads.{Seen, with_dictionary}
+use Rattle.segment_plan.specs.Choices.{is_sorted_on}
 use Rattle.segment_plan.specs.Named.{query_names}
 
 -- the query without its filter
@@ -51,3 +54,9 @@ pub record IsFoundOf (table : Table) (rows : List (List Value)) (column : ℕ) (
     (count : ℕ) (ids : List ℕ) : Type 0 where
   pub count_is : count ≡ length (dictionary_of table rows column).values
   pub ids_are : ids ≡ matching test (dictionary_of table rows column).values
+
+-- the column has no index
+pub record IsUnindexed (settings : Settings) (column : ℕ) : Type 0 where
+  pub unsorted : is_sorted_on settings.sorted column ≡ false
+  pub uninverted : is_set (slice_get settings.inverted column) ≡ false
+  pub unranged : is_set (slice_get settings.ranged column) ≡ false

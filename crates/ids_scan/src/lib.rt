@@ -4,4 +4,4 @@
 
 mod laws;
 
-pub use laws::ids_read_law;
+pub use laws::{ids_law, ids_read_law};
