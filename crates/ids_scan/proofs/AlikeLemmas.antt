@@ -55,7 +55,9 @@ use Rattle.segment_scan.specs.Scans.{selected_read}
 use Rattle.segment_scan.proofs.AgreementLemmas.{agreeing_same}
 use Rattle.segment_scan.proofs.LeftImage.{whole_docs}
 use Rattle.ids_scan.specs.Alike.{IdsAreAlike, IsAlike, with_own}
-use Rattle.ids_scan.specs.ByIds.{IsByIds, IsTestedAlone, IsUnindexed, unfiltered, with_ids}
+use Rattle.segment_head.specs.ColumnIds.{with_ids}
+use Rattle.segment_opening.specs.Found.{IsTestedAlone, IsUnindexed, unfiltered}
+use Rattle.ids_scan.specs.ByIds.{IsByIds}
 use Rattle.ids_scan.specs.Reads.{IsAskedOf}
 use Rattle.ids_scan.proofs.ReadLemmas.{full_count, full_head, full_image, full_loaded, full_reads, full_values, given_count, named_too, others_same, own_named, read_alike, same_marks}
 use Rattle.ids_scan.proofs.HeadLemmas.{part_self}
@@ -76,7 +78,7 @@ module _ (table : Table) (column : ℕ) (un : IsUnindexed table.settings column)
   choice_un h t = (λ i. if un.unsorted i then Sorted else if un.uninverted i then Inverted else if un.unranged i && are_consecutive (matching t (values_in h column)) then Range else Unindexed)
 
   module _ (q : BoundQuery) (t : Test) (only : q.conjuncts ≡ One column t ∷ []) (h : Seen) where
-    choices_un : choices_for q table h ≡ Unindexed ∷ []
+    pub choices_un : choices_for q table h ≡ Unindexed ∷ []
     choices_un = ap (map (choice_of table.settings h)) only ∙ ap (λ (x : IndexChoice). x ∷ []) (choice_un h t)
 
     indexed_un : indexed_for q table h ≡ []
@@ -94,6 +96,14 @@ module _ (table : Table) (column : ℕ) (un : IsUnindexed table.settings column)
         go : (k : ℕ) → IsBadIndex held h part (choice_at (Unindexed ∷ []) k) conjunct → ⊥
         go zero b = b
         go (suc k) b = b
+
+-- why a scan by ids is refused is why one by the values is
+pub bad_alike : (query asked : BoundQuery) (table : Table) (column : ℕ) (test : Test) (ids : List ℕ) → IsUnindexed table.settings column → IsTestedAlone query column test → IsByIds query asked column ids → (held : Option Files) (h : Seen) (part : Part) → IsBadIn asked table held h part → IsBadIn query table held h part
+bad_alike query asked table column test ids un alone by held h part (inl (c, named, is, fails), none) =
+    let at_asked = rest_names table column un asked by.test by.only h c in
+    let at_query = rest_names table column un query test alone.only h c in
+    (inl (c, at_query ∙ (λ i. (((column == c) || false) || is_in (sym by.groups_same i) c) || list_any (agg_names c) (sym by.aggs_same i)) ∙ sym at_asked ∙ named, is, fails), none)
+bad_alike query asked table column test ids un alone by held h part (inr (at, conjunct, there, bad), none) = absurd (never_indexed table column un asked by.test by.only h held part at conjunct bad)
 
 -- ---- values that satisfy the test
 
@@ -274,7 +284,7 @@ module _ (read : ImagesRead) (leave : ImagesLeave) (tells_law : HeadTells) (over
 
   -- ---- the plan
 
-  full_tells : TellsOf table os full
+  pub full_tells : TellsOf table os full
   full_tells =
       let i = full_image read tells_law query asked table files rows head column test count ids a in
       tells_law table i.name i.file rows i.whole full a.valid i.named i.can i.is_head i.part

@@ -36,7 +36,9 @@ use Rattle.segment_scan.specs.Agreement.{Agree, AgreeAll}
 use Rattle.segment_scan.specs.Images.{ImagesRead, ReadsImage}
 use Rattle.segment_scan.specs.Scans.{column_read, columns_read, table_read, values_read}
 use Rattle.segment_scan.proofs.ImageLemmas.{columns_few, item_there}
-use Rattle.ids_scan.specs.ByIds.{IsByIds, IsFoundOf, IsTestedAlone, ids_below, numbers_below, unfiltered, with_ids}
+use Rattle.segment_head.specs.ColumnIds.{ids_below, numbers_below, with_ids}
+use Rattle.segment_opening.specs.Found.{IsTestedAlone, unfiltered}
+use Rattle.ids_scan.specs.ByIds.{IsByIds, IsFoundOf}
 use Rattle.ids_scan.specs.Reads.{IdsReadAlike, IsAskedOf, ReadAlike}
 use Rattle.ids_scan.proofs.HeadLemmas.{other_loaded, other_values, part_self, set_head, set_loaded, set_part, set_values, whole_loaded}
 
@@ -119,8 +121,8 @@ module _ (query : BoundQuery) (column : ℕ) (test : Test) (alone : IsTestedAlon
       go false e = others_named c e ∙ is
 
   -- what is loaded but for the column, is loaded with it
-  pub with_own : (head : Seen) (d : Distinct) → IsLoaded (with_dictionary column d head) column → AreNamedLoaded (unfiltered query) head → AreNamedLoaded query (with_dictionary column d head)
-  with_own head d own loaded c named = go (column == c) refl
+  pub with_column : (head : Seen) (d : Distinct) → IsLoaded (with_dictionary column d head) column → AreNamedLoaded (unfiltered query) head → AreNamedLoaded query (with_dictionary column d head)
+  with_column head d own loaded c named = go (column == c) refl
     where
       go : (b : Bool) → column == c ≡ b → IsLoaded (with_dictionary column d head) c
       go true e = subst (IsLoaded (with_dictionary column d head)) (eqb-true column c e) own
@@ -163,7 +165,7 @@ module _ (read : ImagesRead) (tells_law : HeadTells) (query asked : BoundQuery) 
   full_head = set_head table head column d a.of_table
 
   pub full_loaded : AreNamedLoaded query full
-  full_loaded = with_own query column test a.alone head d (set_loaded table head column a.of_table a.within d) a.loaded
+  full_loaded = with_column query column test a.alone head d (set_loaded table head column a.of_table a.within d) a.loaded
 
   pub full_image : IsOfImage table files rows full
   full_image = record {

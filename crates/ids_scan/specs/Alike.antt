@@ -21,7 +21,8 @@ use Rattle.segment_plan.specs.declared.plans.SegmentPlan.TheVariants.{Scan}
 use Rattle.segment_plan.specs.Planned.{plan_over}
 use Rattle.segment_plan.specs.Pruning.{is_pruned}
 use Rattle.segment_scan.specs.Images.{AreDocs, AreRead, IsBadIn, LogsScan, LogsScanPartly, choices_for}
-use Rattle.ids_scan.specs.ByIds.{IsUnindexed, with_ids}
+use Rattle.segment_head.specs.ColumnIds.{with_ids}
+use Rattle.segment_opening.specs.Found.{IsUnindexed}
 use Rattle.ids_scan.specs.Reads.{IsAskedOf}
 
 -- the head with the dictionary that the column has in these rows

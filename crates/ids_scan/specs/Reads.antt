@@ -13,7 +13,9 @@ use Rattle.segment_head.specs.Stored.{IsOfImage}
 use Rattle.segment_plan.specs.Named.{AreNamedLoaded, names_in, query_names}
 use Rattle.segment_scan.specs.Agreement.{AgreeAll}
 use Rattle.segment_scan.specs.Scans.{selected_read}
-use Rattle.ids_scan.specs.ByIds.{IsByIds, IsFoundOf, IsTestedAlone, unfiltered, with_ids}
+use Rattle.segment_head.specs.ColumnIds.{with_ids}
+use Rattle.segment_opening.specs.Found.{IsTestedAlone, unfiltered}
+use Rattle.ids_scan.specs.ByIds.{IsByIds, IsFoundOf}
 
 -- what is known of a query, of what it is asked by, and of the image of rows that it is asked of
 pub record IsAskedOf (query asked : BoundQuery) (table : Table) (files : Files)

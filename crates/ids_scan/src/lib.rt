@@ -2,6 +2,8 @@
 //! these are not read.
 #![tactic(auto)]
 
+mod asked;
 mod laws;
 
+pub use asked::asked_by_ids;
 pub use laws::{ids_law, ids_read_law};
