@@ -33,7 +33,7 @@ use Rattle.segment_scan.proofs.ScanReads.{image_scan, image_scan_partly}
 use Rattle.ids_scan.specs.Alike.{IdsAreAlike, IsAlike, with_own}
 use Rattle.ids_scan.specs.ByIds.{IsByIds}
 use Rattle.ids_scan.specs.Reads.{IsAskedOf}
-use Rattle.ids_scan.proofs.AlikeLemmas.{bad_alike, choices_un, full_tells}
+use Rattle.ids_scan.proofs.AlikeLemmas.{bad_alike, choices_un}
 use Rattle.ids_scan.proofs.HeadLemmas.{set_head, set_loaded}
 use Rattle.ids_scan.proofs.ReadLemmas.{full_head, full_image, full_loaded, same_names, with_column}
 use Rattle.query_executor.specs.ByIds.{CanAskByIds}
@@ -153,6 +153,7 @@ module _ (query asked : BoundQuery) (table : Table) (segment : Stored) (head : S
           let x = asked_of files can rows has in
           let is = alike files can rows has in
           let full = with_own table rows column head in
+          let i = full_image read tells query asked table files rows head column can.test count ids x in
           let own : plan.choices ≡ choices_for query table full = choices ∙ sym (choices_un table column can.unindexed query can.test can.alone.only full) in
           let over : Scan plan ≡ plan_over query table os = is.plan_is plan can.query_valid can.kept can.unpicked (chosen (Some files) can plan choices) in
           subst (ReadsBy query table segment os true entries) over
@@ -160,9 +161,9 @@ module _ (query asked : BoundQuery) (table : Table) (segment : Stored) (head : S
           (full_head read tells query asked table files rows head column can.test count ids x)
           (full_loaded read tells query asked table files rows head column can.test count ids x)
           (can.opened.spread rows has)
-          (full_tells read leave tells query asked table files rows head column can.test count ids x can.unindexed can.some)
+          (tells table i.name i.file rows i.whole full can.valid i.named i.can i.is_head i.part)
           files
-          (full_image read tells query asked table files rows head column can.test count ids x)
+          i
           plan own docs a b (is.logs docs a b logs) before entries was now)
 
       pub given_up_by_ids : (held : Option Files) → Can held → (a b : Option (List Entry)) → LogsScanPartly asked table held given a b → LogsOne (ReadsPlanned query table false) table held segment a b
@@ -172,6 +173,7 @@ module _ (query asked : BoundQuery) (table : Table) (segment : Stored) (head : S
           let x = asked_of files can rows has in
           let is = alike files can rows has in
           let full = with_own table rows column head in
+          let i = full_image read tells query asked table files rows head column can.test count ids x in
           let own : plan.choices ≡ choices_for query table full = choices ∙ sym (choices_un table column can.unindexed query can.test can.alone.only full) in
           let over : Scan plan ≡ plan_over query table os = is.plan_is plan can.query_valid can.kept can.unpicked (chosen (Some files) can plan choices) in
           subst (ReadsBy query table segment os false entries) over
@@ -179,7 +181,7 @@ module _ (query asked : BoundQuery) (table : Table) (segment : Stored) (head : S
           (full_head read tells query asked table files rows head column can.test count ids x)
           (full_loaded read tells query asked table files rows head column can.test count ids x)
           (can.opened.spread rows has)
-          (full_tells read leave tells query asked table files rows head column can.test count ids x can.unindexed can.some)
+          (tells table i.name i.file rows i.whole full can.valid i.named i.can i.is_head i.part)
           files
-          (full_image read tells query asked table files rows head column can.test count ids x)
+          i
           plan own a b (is.logs_partly a b logs) before entries was now)
