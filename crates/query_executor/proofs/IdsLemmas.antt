@@ -1,5 +1,5 @@
 -- What a scan by the ids of a column does to groups, reads and is refused by, for the query that tests its values.
-use Rattle.std.proofs.Common.{◌≡◌, ◌≢◌, ◌∙◌, ◌+◌, ◌<◌, ◌≤◌, ◌∷◌, [], ℕ, false, true, List, Option, Some, None, IfSome, inl, inr, length, map, refl, sym, ap, subst, arith}
+use Rattle.std.proofs.Common.{◌≡◌, ◌≢◌, ◌∙◌, ◌+◌, ◌<◌, ◌≤◌, ◌∷◌, [], ℕ, false, true, List, Option, Some, None, IfSome, Result, Ok, Err, inl, inr, length, map, refl, sym, ap, subst, arith}
 use Rattle.outside.specs.Files.{Files, bytes_of}
 use Rattle.outside.specs.Reads.{Entry}
 use Rattle.values.specs.declared.value.Value.{Value}
@@ -36,8 +36,17 @@ use Rattle.ids_scan.specs.Reads.{IsAskedOf}
 use Rattle.ids_scan.proofs.AlikeLemmas.{bad_alike, choices_un}
 use Rattle.ids_scan.proofs.HeadLemmas.{set_head, set_loaded}
 use Rattle.ids_scan.proofs.ReadLemmas.{full_head, full_image, full_loaded, same_names, with_column}
+use Rattle.outside.specs.Seen as outside
+use Rattle.outside.proofs.ReadLemmas.{on-err}
+use Rattle.table_schema.specs.ValidTable.{IsValidTable}
+use Rattle.segment_head.specs.declared.fault.EngineFault.{EngineFault}
+use Rattle.segment_head.specs.declared.fault.EngineFault.TheVariants as engine
+use Rattle.star_answer.specs.DocLaws.{DocsAreBounded}
+use Rattle.segment_reads.proofs.LogLemmas.{logs_none}
+use Rattle.query_executor.proofs.EndLemmas.{fault_not, fault_ok, memory_not_bad, memory_not_full, memory_not_read, reads_unread}
+use Rattle.query_executor.proofs.OneReads.{given_up, none_one}
 use Rattle.query_executor.specs.ByIds.{CanAskByIds}
-use Rattle.query_executor.specs.Passes.{IsBadPart}
+use Rattle.query_executor.specs.Passes.{AddsSegment, IsBadPart}
 use Rattle.query_executor.specs.Steps.{AddsGroups, AddsStored, IsStoredOverfull, selected_in}
 
 module _ (query asked : BoundQuery) (table : Table) (segment : Stored) (head : Seen) (column count : ℕ) (ids : List ℕ) (by : IsByIds query asked column ids) where
@@ -185,3 +194,18 @@ module _ (query asked : BoundQuery) (table : Table) (segment : Stored) (head : S
           files
           i
           plan own a b (is.logs_partly a b logs) before entries was now)
+
+-- where memory was refused before anything was read
+pub adds_memory : {A : Type 0} (query : BoundQuery) (table : Table) (segment : Stored) (groups : KeptGroups) → DocsAreBounded → IsValidTable table → (a : outside.Seen) (r : Result A EngineFault) → r ≡ Err engine.NoMemory → AddsSegment query table segment groups groups a a r
+adds_memory query table segment groups law valid a r is = record {
+  added = fault_ok _ r engine.NoMemory _ is;
+  opens = fault_ok _ r engine.NoMemory _ is;
+  full = λ e. absurd (fault_not _ r engine.NoMemory engine.TooManyGroups memory_not_full is e);
+  filled = λ e. absurd (fault_not _ r engine.NoMemory engine.TooManyGroups memory_not_full is e);
+  bad = λ part e. absurd (fault_not _ r engine.NoMemory (engine.NotASegment part) (memory_not_bad part) is e);
+  only_reads = reads_unread _ a (λ e. fault_not _ r engine.NoMemory engine.ReadFault memory_not_read is e);
+  log = logs_none (λ other. other ≡ segment.file) a.log;
+  reads = fault_ok _ r engine.NoMemory _ is;
+  reads_of_fault = on-err r (LogsOne (ReadsPlanned query table false) table a.held segment a.log a.log)
+      (given_up query table segment law valid a.held a.log a.log (none_one query table segment a.held a.log));
+}

@@ -22,6 +22,7 @@ use table_schema::{BoundQuery, Table};
 use values::NoMemory;
 
 /// A query of a segment.
+#[derive(Drop)]
 pub(crate) struct Asked<'a> {
     pub(crate) table: &'a Table,
     pub(crate) segment: &'a Stored,
