@@ -5,8 +5,8 @@ ghost use Rattle.ids_scan.specs.Reads.{IdsReadAlike};
 use segment_plan::{head_tells_law, plan_over_law};
 use segment_scan::{image_law, index_law};
 
-/// On the image of rows, those that are read by the ids of a column agree with the rows that satisfy
-/// the filter.
+/// On the image of rows, those that are read by the ids of a column agree with the rows that
+/// satisfy the filter.
 pub fn ids_read_law()
     ensures { IdsReadAlike }
 {
