@@ -1,4 +1,4 @@
-use Rattle.std.proofs.Common.{◌+◌, ◌*◌, length, Err, refl, ap}
+use Rattle.std.proofs.Common.{◌≡◌, ◌+◌, ◌*◌, length, Err, refl, ap}
 use Rattle.outside.specs.Seen.{Seen, seen}
 use Rattle.dictionary_reading.specs.Bounds.{bounds_of}
 use Rattle.segment_file.specs.declared.fault.HeadFault.TheVariants as head
