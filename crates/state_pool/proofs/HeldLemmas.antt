@@ -7,7 +7,7 @@ use Rattle.state_pool.specs.Pool.{Pool, Place, Slots, slots_of, kinds_at, Takes,
 use Rattle.state_pool.proofs.SlotLemmas.{put_here, put_there}
 
 -- what is asked of a number holds of every number if it holds of that one and of every other
-each_number : (P : ℕ → Type 0) (n : ℕ) → P n → ((q : ℕ) → q ≢ n → P q) → (q : ℕ) → P q
+pub each_number : (P : ℕ → Type 0) (n : ℕ) → P n → ((q : ℕ) → q ≢ n → P q) → (q : ℕ) → P q
 each_number P n here there q = by (cases_lt q n) (cases_lt n q)
   where
     by : (q < n) ⊎ (n ≤ q) → (n < q) ⊎ (q ≤ n) → P q

@@ -4,3 +4,4 @@ mod PartSteps
 pub mod OwnerLemmas
 pub mod PoolSteps
 pub mod HeldLemmas
+mod KindSteps

@@ -60,7 +60,7 @@ map_at f [] i d e lt = absurd (omega (arith, lt))
 map_at f (x ∷ xs) zero d e lt = refl
 map_at f (x ∷ xs) (suc i) d e lt = map_at f xs i d e (omega (arith, lt))
 
-set_map : {X Y : Type 0} (f : X → Y) (xs : List X) (i : ℕ) (x y : X) → i < length xs → x ≡ get_or xs i x → f y ≡ f x → map f (set xs i y) ≡ map f xs
+pub set_map : {X Y : Type 0} (f : X → Y) (xs : List X) (i : ℕ) (x y : X) → i < length xs → x ≡ get_or xs i x → f y ≡ f x → map f (set xs i y) ≡ map f xs
 set_map f [] i x y lt is e = absurd (omega (arith, lt))
 set_map f (z ∷ xs) zero x y lt is e = λ j. (e ∙ ap f is) j ∷ map f xs
 set_map f (z ∷ xs) (suc i) x y lt is e = λ j. f z ∷ set_map f xs i x y (omega (arith, lt)) is e j
@@ -235,6 +235,7 @@ module _ (owners : List Owner) (holders : List (Option ℕ)) (width : ℕ) (cell
       changes = record {
         quotas = moved.quotas;
         kinds = moved.kinds;
+        width = refl;
         own = puts number old_pool new_pool moved (kinds_fit owners holders width cells free kept) i (units_of (kinds_at old_pool i))
             (held_by new_pool i number cells_taken.own ∙ ap Some row_is);
         others = λ other ne. stays number old_pool new_pool moved (kinds_fit owners holders width cells free kept) other
@@ -312,6 +313,7 @@ module _ (owners : List Owner) (holders : List (Option ℕ)) (width : ℕ) (cell
     gives = record {
       quotas = vacated.quotas;
       kinds = vacated.kinds;
+      width = refl;
       own = goes number before after vacated (kinds_fit owners holders width cells free kept) i (not_held after i number gone);
       others = λ other ne. stays number before after vacated (kinds_fit owners holders width cells free kept) other
           (not_held after other number gone ∙ sym (other_held before i other number here ne));

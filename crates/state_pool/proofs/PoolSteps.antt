@@ -60,6 +60,7 @@ module _ (kinds : List AggKind) where
   new_fresh : (quotas : List ℕ) → IsNew kinds quotas (pool_in (map fresh quotas) [] (length kinds) [])
   new_fresh quotas = record {
     quotas_are = quotas_fresh quotas;
+    width_is = refl;
     kinds_are = λ owner lt. let there : owner < length (map fresh quotas) = omega (arith, lt, length-map quotas fresh) in
         map_at (λ (o : Owner). o.kinds) (map fresh quotas) owner (fresh 0) [] there ∙ ap (λ (o : Owner). o.kinds) (fresh_at quotas owner (fresh 0) there);
     none_out = λ owner. refl;
@@ -117,6 +118,7 @@ module _ (owners : List Owner) (holders : List (Option ℕ)) (width : ℕ) (cell
   rewrites = record {
     quotas = refl;
     kinds = refl;
+    width = refl;
     own = puts slot.number (pool_in owners holders width cells) (pool_in owners holders width new_cells) moved
         (kinds_fit owners holders width cells free kept) slot.owner states
         (held_by (pool_in owners holders width new_cells) slot.owner slot.number holder ∙ ap Some part);

@@ -75,6 +75,7 @@ states_at pool slot = unwrap_or (finite.get (slots_of pool slot.owner) slot.numb
 pub record Changes (owner : ℕ) (slots : Slots) (old new : Pool) : Type 0 where
   pub quotas : new.quotas ≡ old.quotas
   pub kinds : new.kinds ≡ old.kinds
+  pub width : new.width ≡ old.width
   pub own : slots_of new owner ≡ slots
   pub others : (other : ℕ) → other ≢ owner → slots_of new other ≡ slots_of old other
 
@@ -105,8 +106,17 @@ with_state pool slot at state = record {
   cells = slice_set pool.cells (slot.number * pool.width + at) state;
 }
 
+-- an owner has slots of these kinds from now on, and the rest of the pool is as it was
+pub record SetsKinds (owner : ℕ) (kinds : List AggKind) (old new : Pool) : Type 0 where
+  pub quotas : new.quotas ≡ old.quotas
+  pub width : new.width ≡ old.width
+  pub own : kinds_at new owner ≡ kinds
+  pub others : (other : ℕ) → other ≢ owner → kinds_at new other ≡ kinds_at old other
+  pub slots : (other : ℕ) → slots_of new other ≡ slots_of old other
+
 -- a pool in which nobody holds a slot yet: each owner has its quota, and states of these kinds
 pub record IsNew (kinds : List AggKind) (quotas : List ℕ) (pool : Pool) : Type 0 where
   pub quotas_are : pool.quotas ≡ quotas
+  pub width_is : pool.width ≡ length kinds
   pub kinds_are : (owner : ℕ) → owner < length quotas → kinds_at pool owner ≡ kinds
   pub none_out : (owner : ℕ) → slots_of pool owner ≡ finite.empty

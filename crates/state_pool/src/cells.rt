@@ -1,6 +1,6 @@
 //! States in cells that stand for more values.
 
-ghost use Rattle.std.specs.Prelude.{◌≡◌, ◌+◌, ◌≤◌, ◌∷◌, [], length};
+ghost use Rattle.std.specs.Prelude.{◌≡◌, ◌+◌, ◌≤◌, ◌⊎◌, ◌∷◌, [], length};
 ghost use Rattle.agg_laws.specs.Numbers.{most_values};
 ghost use Rattle.agg_laws.specs.Rows.{row_of, kinds_of, merged_rows, RowFits};
 ghost use Rattle.state_pool.specs.Kept.{part_of, with_part};
@@ -32,5 +32,23 @@ pub(crate) fn merge_cells(cells: &mut [AggState], from: usize, states: &[AggStat
 {
     for i in 0..states.len() {
         cells[from + i].merge(&states[i]);
+    }
+}
+
+/// Merges the states from one place on, place by place, into those from another place on.
+pub(crate) fn merge_part(cells: &mut [AggState], into: usize, from: usize, count: usize)
+    requires into { into + count ≤ length cells.old }
+    requires from { from + count ≤ length cells.old }
+    requires apart { (into + count ≤ from) ⊎ (from + count ≤ into) }
+    requires kinds { kinds_of (part_of cells.old into count)
+        ≡ kinds_of (part_of cells.old from count) }
+    requires fits { RowFits (merged_rows (part_of cells.old into count)
+        (part_of cells.old from count)) most_values }
+    ensures { cells.new ≡ with_part cells.old into count
+        (merged_rows (part_of cells.old into count) (part_of cells.old from count)) }
+{
+    for i in 0..count {
+        let state = cells[from + i];
+        cells[into + i].merge(&state);
     }
 }

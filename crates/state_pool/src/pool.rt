@@ -1,16 +1,16 @@
 //! Pools of slots.
 
-ghost use Rattle.std.specs.Prelude.{◌≡◌, ℕ, ◌+◌, ◌*◌, ◌<◌, ◌≤◌, ◌^◌, ◌↔◌, ◌++◌, [], length, map, sum};
+ghost use Rattle.std.specs.Prelude.{◌≡◌, ◌≢◌, ℕ, ◌+◌, ◌*◌, ◌<◌, ◌≤◌, ◌^◌, ◌↔◌, ◌++◌, [], length, map, sum};
 ghost use Rattle.std.specs.Prelude.{◌∷◌, slice_get, slice_set, Some, None, IfOk, IfSome, vec_capacity};
 ghost use Rattle.std.specs.Borrow.{sem};
 ghost use Rattle.agg_laws.specs.Numbers.{most_values};
 ghost use Rattle.agg_laws.specs.Rows.{row_of, kinds_of, merged_rows, RowFits};
-ghost use Rattle.state_pool.specs.Pool.{IsNew, IsOut, Takes, GivesBack, Writes};
+ghost use Rattle.state_pool.specs.Pool.{IsNew, IsOut, Takes, GivesBack, Writes, SetsKinds};
 ghost use Rattle.state_pool.specs.Pool.{quota_of, kinds_at, held, states_at, with_state};
 ghost use Rattle.state_pool.specs.Kept.{AreFree, HasRoom, TakesCells, TakesNumber};
 ghost use Rattle.state_pool.specs.Lent.{LendsState};
 
-use crate::cells::{add_cells, merge_cells};
+use crate::cells::{add_cells, merge_cells, merge_part};
 use crate::slot::Slot;
 use crate::units::{add_spare, add_units, write_units};
 use agg_laws::{AggKind, AggState, Kinds, NoMemory};
@@ -86,6 +86,17 @@ impl SlotPool {
     {
         let own = &self.owners[owner as usize];
         own.quota - own.held
+    }
+
+    /// Gives an owner that holds no slot other kinds: the slots that it takes from now on are of
+    /// these. It takes no memory.
+    pub fn set_kinds(&mut self, owner: u16, kinds: Kinds)
+        requires owner { owner < length self.old.quotas }
+        requires none { held self.old owner ≡ 0 }
+        requires few { length kinds ≤ self.old.width }
+        ensures { SetsKinds owner kinds self.old self.new }
+    {
+        self.owners[owner as usize].kinds = kinds;
     }
 
     /// A slot of the states of no value, unless the owner holds as many as it may.
@@ -167,6 +178,25 @@ impl SlotPool {
     {
         let from = slot.number as usize * self.width;
         merge_cells(self.cells.as_mut_slice(), from, states.as_slice());
+    }
+
+    /// The values of the states in a slot of another owner too, place by place. No other slot
+    /// changes, and no memory is taken.
+    pub fn merge_slot(&mut self, slot: &Slot, from: &Slot)
+        requires out { IsOut self.old slot.now }
+        requires from { IsOut self.old from.now }
+        requires apart { from.now.owner ≢ slot.now.owner }
+        requires kinds { kinds_of (states_at self.old slot.now)
+            ≡ kinds_of (states_at self.old from.now) }
+        requires fits { RowFits (merged_rows (states_at self.old slot.now)
+            (states_at self.old from.now)) most_values }
+        ensures { Writes slot.now (merged_rows (states_at self.old slot.now)
+            (states_at self.old from.now)) self.old self.new }
+    {
+        let count = self.owners[slot.owner as usize].kinds.len();
+        let into = slot.number as usize * self.width;
+        let from = from.number as usize * self.width;
+        merge_part(self.cells.as_mut_slice(), into, from, count);
     }
 }
 
