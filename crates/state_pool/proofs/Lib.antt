@@ -5,3 +5,4 @@ pub mod OwnerLemmas
 pub mod PoolSteps
 pub mod HeldLemmas
 mod KindSteps
+mod PairSteps

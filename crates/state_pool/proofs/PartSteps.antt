@@ -1,11 +1,12 @@
 -- Cells from a place on, of which the first ones were merged.
-use Rattle.std.proofs.Common.{◌≡◌, ◌∙◌, ℕ, zero, suc, ◌+◌, ◌-◌, ◌<◌, ◌≤◌, List, [], ◌∷◌, ◌++◌, length, get_or, set, take, drop, refl, sym, ap, arith, length-drop}
-use Rattle.std.proofs.lemmas.List.{length-take-le, take-append-drop, drop-drop, set-append_left, set-append_right, get_or_append_left, get_or-append_right}
+use Rattle.std.proofs.Common.{◌≡◌, ◌∙◌, ℕ, zero, suc, ◌+◌, ◌-◌, ◌<◌, ◌≤◌, List, [], ◌∷◌, ◌++◌, length, get_or, set, take, drop, refl, sym, ap, arith, length-drop, ◌⊎◌, inl, inr}
+use Rattle.std.proofs.lemmas.List.{length-take-le, take-append-drop, drop-drop, set-append_left, set-append_right, get_or_append_left, get_or-append_right, get_or-take, get_or-drop}
 use Rattle.agg_laws.specs.declared.states.AggState.{AggState}
 use Rattle.agg_laws.specs.States.{merged}
 use Rattle.agg_laws.specs.Rows.{merged_rows}
 use Rattle.state_columns.proofs.RowPlaces.{mixed, mixed_at, mixed_more, mixed_all}
 use Rattle.state_pool.specs.Kept.{part_of, with_part}
+use Rattle.state_pool.proofs.CellLemmas.{part_before, part_after}
 
 length-mixed : (n : ℕ) (vs ws : List AggState) → length (mixed n vs ws) ≡ length vs
 length-mixed zero vs ws = refl
@@ -36,6 +37,16 @@ module _ (xs : List AggState) (from n : ℕ) (le : from + n ≤ length xs) where
       ∙ ap (λ k. take from xs ++ set (ms ++ drop (from + n) xs) k u) (let e : from + i - from ≡ i = omega arith in e)
       ∙ ap (λ l. take from xs ++ l) (set-append_left ms (drop (from + n) xs) i u (omega (arith, len, lt)))
 
+  -- cells beside these are as they were
+  beside : (ms : List AggState) (a i : ℕ) (d : AggState) → length ms ≡ n → (from + n ≤ a) ⊎ (a + n ≤ from) → i < n
+      → get_or (with_part xs from n ms) (a + i) d ≡ get_or (part_of xs a n) i d
+  beside ms a i d len apart lt = sym (get_or-drop a (with_part xs from n ms) i d) ∙ sym (get_or-take n (drop a (with_part xs from n ms)) i d lt)
+      ∙ ap (λ l. get_or l i d) (by apart)
+    where
+      by : (from + n ≤ a) ⊎ (a + n ≤ from) → part_of (with_part xs from n ms) a n ≡ part_of xs a n
+      by (inl after) = part_after xs ms from n len le a n after
+      by (inr before) = part_before xs ms from n len le a n before
+
   -- the first i of them are merged with others
   module _ (ws cells : List AggState) (i : ℕ) (d : AggState) (lt : i < n) (is : cells ≡ with_part xs from n (mixed i (part_of xs from n) ws)) where
     long : length (mixed i (part_of xs from n) ws) ≡ n
@@ -43,6 +54,9 @@ module _ (xs : List AggState) (from n : ℕ) (le : from + n ≤ length xs) where
 
     pub next_here : get_or cells (from + i) d ≡ get_or (part_of xs from n) i d
     next_here = ap (λ l. get_or l (from + i) d) is ∙ part_get (mixed i (part_of xs from n) ws) i d long lt ∙ mixed_at i (part_of xs from n) ws i d (omega arith)
+
+    pub next_there : (a : ℕ) → (from + n ≤ a) ⊎ (a + n ≤ from) → get_or cells (a + i) d ≡ get_or (part_of xs a n) i d
+    next_there a apart = ap (λ l. get_or l (a + i) d) is ∙ beside (mixed i (part_of xs from n) ws) a i d long apart lt
 
     pub next_merged : (e u : AggState) → n ≡ length ws → u ≡ merged (get_or (part_of xs from n) i d) (get_or ws i e)
         → set cells (from + i) u ≡ with_part xs from n (mixed (i + 1) (part_of xs from n) ws)

@@ -1,0 +1,54 @@
+-- The rows of two slots of different owners.
+use Rattle.std.proofs.Common.{◌≡◌, ◌≢◌, ◌∙◌, ℕ, ◌+◌, ◌*◌, ◌<◌, ◌≤◌, ◌⊎◌, inl, inr, List, length, Option, Some, None, get_or, sym, ap, arith}
+use Rattle.agg_laws.specs.declared.states.AggState.{AggState}
+use Rattle.agg_laws.specs.Rows.{kinds_of}
+use Rattle.state_columns.proofs.RowPlaces.{same_length}
+use Rattle.state_pool.specs.declared.pool.Owner.{Owner}
+use Rattle.state_pool.specs.Pool.{Pool, Place, IsOut, kinds_at, states_at}
+use Rattle.state_pool.specs.Kept.{IsKept, pool_in, part_of}
+use Rattle.state_pool.proofs.CellLemmas.{other_row, row_before}
+use Rattle.state_pool.proofs.OwnerLemmas.{kinds_fit}
+use Rattle.state_pool.proofs.PoolSteps.{seen_holder, seen_row, seen_long, seen_states}
+
+module _ (owners : List Owner) (holders : List (Option ℕ)) (width : ℕ) (cells : List AggState) (free : List ℕ)
+    (kept : IsKept owners (pool_in owners holders width cells) free) (pool : Pool) (pool_is : pool_in owners holders width cells ≡ pool)
+    (owner number : ℕ) (slot : Place) (slot_is : ◌≡◌ {A = Place} (record { owner = owner; number = number }) slot) (out : IsOut pool slot)
+    (other with_number : ℕ) (from : Place) (from_is : ◌≡◌ {A = Place} (record { owner = other; number = with_number }) from) (from_out : IsOut pool from)
+    (apart : from.owner ≢ slot.owner) (kinds : kinds_of (states_at pool slot) ≡ kinds_of (states_at pool from))
+    (n : ℕ) (few : n ≡ length (kinds_at pool slot.owner)) where
+  pub few_from : n ≡ length (kinds_at pool from.owner)
+  few_from = few ∙ sym (seen_long owners holders width cells free kept pool pool_is owner number slot slot_is out)
+      ∙ same_length (states_at pool slot) (states_at pool from) kinds
+      ∙ seen_long owners holders width cells free kept pool pool_is other with_number from from_is from_out
+
+  pub row_into : number * width + n ≤ length cells
+  row_into = omega (arith, seen_row owners holders width cells free kept pool pool_is owner number slot slot_is out, few)
+
+  pub row_from : with_number * width + n ≤ length cells
+  row_from = omega (arith, seen_row owners holders width cells free kept pool pool_is other with_number from from_is from_out, few_from)
+
+  pub states_into : part_of cells (number * width) n ≡ states_at pool slot
+  states_into = seen_states owners holders width cells free kept pool pool_is owner number slot slot_is out n few
+
+  pub states_from : part_of cells (with_number * width) n ≡ states_at pool from
+  states_from = seen_states owners holders width cells free kept pool pool_is other with_number from from_is from_out n few_from
+
+  other_numbers : number ≢ with_number
+  other_numbers is =
+      let here : get_or holders number None ≡ Some owner = seen_holder owners holders width cells free kept pool pool_is owner number slot slot_is out in
+      let there : get_or holders with_number None ≡ Some other = seen_holder owners holders width cells free kept pool pool_is other with_number from from_is from_out in
+      let both : Some other ≡ Some owner = sym there ∙ sym (ap (λ q. get_or holders q None) is) ∙ here in
+      let same : other ≡ owner = cc in
+      apart (sym (ap (λ (p : Place). p.owner) from_is) ∙ same ∙ ap (λ (p : Place). p.owner) slot_is)
+
+  narrow : n ≤ width
+  narrow = let w = kinds_fit owners holders width cells free kept slot.owner in
+      let same : length (kinds_at (pool_in owners holders width cells) slot.owner) ≡ length (kinds_at pool slot.owner) = ap (λ (p : Pool). length (kinds_at p slot.owner)) pool_is in
+      omega (arith, w, same, few)
+
+  pub rows_apart : (number * width + n ≤ with_number * width) ⊎ (with_number * width + n ≤ number * width)
+  rows_apart = by (other_row number with_number other_numbers)
+    where
+      by : (number < with_number) ⊎ (with_number < number) → (number * width + n ≤ with_number * width) ⊎ (with_number * width + n ≤ number * width)
+      by (inl lt) = inl (row_before number with_number width n lt narrow)
+      by (inr lt) = inr (row_before with_number number width n lt narrow)
