@@ -36,15 +36,16 @@ pub same_kinds : (owner : ℕ) (slots : Slots) (old new : Pool) → Changes owne
 same_kinds owner slots old new c other = ap (λ ks. get_or ks other []) c.kinds
 
 pub keeps_changed : (owner : ℕ) (slots : Slots) (old new : Pool) → Changes owner slots old new → KeepsOthers owner old new
-keeps_changed owner slots old new c = record { quotas = c.quotas; kinds = c.kinds; others = c.others }
+keeps_changed owner slots old new c = record { quotas = c.quotas; kinds = c.kinds; width = c.width; others = c.others }
 
 pub keeps_same : (owner : ℕ) (pool : Pool) → KeepsOthers owner pool pool
-keeps_same owner pool = record { quotas = refl; kinds = refl; others = λ other ne. refl }
+keeps_same owner pool = record { quotas = refl; kinds = refl; width = refl; others = λ other ne. refl }
 
 pub keeps_both : (owner : ℕ) (old mid new : Pool) → KeepsOthers owner old mid → KeepsOthers owner mid new → KeepsOthers owner old new
 keeps_both owner old mid new a b = record {
   quotas = b.quotas ∙ a.quotas;
   kinds = b.kinds ∙ a.kinds;
+  width = b.width ∙ a.width;
   others = λ other ne. b.others other ne ∙ a.others other ne;
 }
 
@@ -106,6 +107,7 @@ module _ (owner : ℕ) (slot : Place) (old mid : Pool) (takes : Takes owner slot
   taken_writes = record {
     quotas = takes.changes.quotas;
     kinds = takes.changes.kinds;
+    width = takes.changes.width;
     own = taken_owner slot.owner takes.owner_is;
     others = λ other ne. takes.changes.others other (λ is. ne (is ∙ sym takes.owner_is));
   }
@@ -114,6 +116,7 @@ module _ (owner : ℕ) (slot : Place) (old mid : Pool) (takes : Takes owner slot
   filled w new writes = record {
     quotas = writes.quotas ∙ takes.changes.quotas;
     kinds = writes.kinds ∙ takes.changes.kinds;
+    width = writes.width ∙ takes.changes.width;
     own = writes.own ∙ ap (λ (m : Slots). finite.insert m slot.number w) taken_writes.own ∙ again (slots_of old slot.owner) (units_of (kinds_at old owner));
     others = λ other ne. writes.others other ne ∙ taken_writes.others other ne;
   }

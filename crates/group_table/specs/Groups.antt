@@ -90,3 +90,8 @@ with_states groups key states =
 -- the groups once these states are merged into that of a key
 abbrev pub merged_in : Groups → List Value → List AggState → Groups
 merged_in groups key states = finite.insert groups key (with_states groups key states)
+
+-- the groups once states of several keys are merged in, one after the other
+abbrev pub with_entries : Groups → List Group → Groups
+with_entries groups [] = groups
+with_entries groups (e ∷ es) = with_entries (merged_in groups e.0 e.1) es

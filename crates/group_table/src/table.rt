@@ -1,17 +1,21 @@
 //! Tables of groups whose states are in a pool.
 
-ghost use Rattle.std.specs.Prelude.{◌≡◌, ◌<◌, ◌≤◌, ◌↔◌, ◌∷◌, [], length, map, slice_get};
+ghost use Rattle.std.specs.Prelude.{◌≡◌, ◌+◌, ◌<◌, ◌≤◌, ◌↔◌, ◌∷◌, ◌++◌, [], List, length, map};
+ghost use Rattle.std.specs.Prelude.{slice_get, false};
 ghost use Rattle.std.specs.Prelude.{Some, None, Err, OnOk, OnErr, IfOk};
-ghost use Rattle.std.specs.Map.{lookup};
+ghost use Rattle.std.specs.Map.{lookup, keys_of};
+ghost use Rattle.indexmap.specs.IndexMap.{spare};
 ghost use Rattle.std.specs.FinMap as finite;
+ghost use Rattle.values.specs.declared.value.Value.{Value};
 ghost use Rattle.agg_laws.specs.Numbers.{most_values};
 ghost use Rattle.agg_laws.specs.Rows.{row_of, kinds_of, RowFits};
 ghost use Rattle.state_pool.specs.Pool.{Place, Pool, kinds_at, quota_of, held};
 ghost use Rattle.group_table.specs.declared.fault.TableFault.TheVariants.{TooManyGroups, NoMemory};
-ghost use Rattle.group_table.specs.Groups.{with_states};
+ghost use Rattle.group_table.specs.Groups.{with_entries, with_states};
 ghost use Rattle.group_table.specs.Kept.{IsNewKey, HaveValues, Merges, group_at, groups_in, key_eq};
 ghost use Rattle.group_table.specs.Pooled.{Finds, HoldsAll, IsNewIn, IsTableIn, KeepsOthers};
 ghost use Rattle.group_table.specs.Pooled.{StaysIn, Starts, in_pool, slot_at};
+ghost use Rattle.group_table.specs.Pooled.{AllFit, IsBeside, MergesAll, Places, has_slot, new_keys};
 
 use crate::fault::TableFault;
 use agg_laws::AggState;
@@ -199,6 +203,44 @@ impl GroupTable {
         Ok(())
     }
 
+    /// Merges every group of another table of the same query, whose slots are another owner's. The
+    /// keys are counted first, then copied; from the first merge on no memory is taken.
+    pub fn absorb(
+        &mut self,
+        alloc: Global,
+        pool: &mut SlotPool,
+        from: &GroupTable,
+    ) -> Result<(), TableFault>
+        requires table { IsTableIn self.old pool.old }
+        requires from { IsBeside self.old pool.old from.now }
+        requires fits { AllFit (groups_in (in_pool self.old pool.old))
+            (in_pool from.now pool.old).groups }
+        ensures ok { OnOk result (MergesAll (in_pool from.now pool.old).groups
+            (in_pool self.old pool.old) (in_pool self.new pool.new)) }
+        ensures stays { StaysIn self.old pool.old self.new pool.new }
+        ensures err { OnErr result ((self.new ≡ self.old) × (pool.new ≡ pool.old)) }
+        ensures full { let old = in_pool self.old pool.old in (result ≡ Err TooManyGroups)
+            ↔ (old.most < finite.len (with_entries (groups_in old)
+            (in_pool from.now pool.old).groups)) }
+    {
+        if self.slots.len() + count_new(&self.slots, &from.slots) > self.most as usize {
+            return Err(TableFault::TooManyGroups);
+        }
+        let mut copies = copy_new(alloc, &self.slots, &from.slots)?;
+        self.slots.reserve(copies.len())?;
+        for at in 0..from.slots.len() {
+            let Some((key, other)) = from.slots.get_index(at) else {
+                unreachable!();
+            };
+            let place = place_in(&mut self.slots, self.owner, pool, key, &mut copies);
+            let Some((_, own)) = self.slots.get_index(place) else {
+                unreachable!();
+            };
+            pool.merge_slot(own, other);
+        }
+        Ok(())
+    }
+
     /// How many groups there are.
     pub fn groups(&self) -> u32
         ensures places { result ≡ length self.now.slots }
@@ -240,4 +282,75 @@ impl GroupTable {
             pool.give_back(slot);
         }
     }
+}
+
+/// How many keys of some entries are not among others.
+fn count_new(own: &IndexMap<Row, Slot>, from: &IndexMap<Row, Slot>) -> usize
+    ensures { result ≡ length (new_keys (has_slot own.now.entries) (keys_of from.now.entries)) }
+{
+    let mut count: usize = 0;
+    for at in 0..from.len() {
+        let Some((key, _)) = from.get_index(at) else {
+            unreachable!();
+        };
+        if own.get_index_of(key).is_none() {
+            count += 1;
+        }
+    }
+    count
+}
+
+/// Copies of the keys of some entries that are not among others, the last one first.
+fn copy_new(
+    alloc: Global,
+    own: &IndexMap<Row, Slot>,
+    from: &IndexMap<Row, Slot>,
+) -> Result<Vec<Row>, NoMemory>
+    ensures { IfOk result (λ copies. copies.items
+        ≡ new_keys (has_slot own.now.entries) (keys_of from.now.entries)) }
+{
+    let mut copies = Vec::new(alloc);
+    let mut at = from.len();
+    'keys: while at > 0 {
+        at -= 1;
+        let Some((key, _)) = from.get_index(at) else {
+            unreachable!();
+        };
+        if own.get_index_of(key).is_none() {
+            copies.push(copy_row(alloc, key)?)?;
+        }
+    }
+    Ok(copies)
+}
+
+/// The place of a key's slot. Where the key is new, it is the last of the copies, and gets a slot.
+fn place_in(
+    slots: &mut IndexMap<Row, Slot>,
+    owner: u16,
+    pool: &mut SlotPool,
+    key: &Row,
+    copies: &mut Vec<Row>,
+) -> usize
+    requires owner { owner < length pool.old.quotas }
+    requires next { has_slot slots.old.entries key.now ≡ false
+        → (rest : List (List Value)) × (copies.old.items ≡ rest ++ key.now ∷ []) }
+    requires room { length copies.old.items ≤ spare slots.old }
+    requires free { length copies.old.items + held pool.old owner ≤ quota_of pool.old owner }
+    ensures placed { Places key.now result owner slots.old.entries slots.new.entries pool.old
+        pool.new copies.old.items copies.new.items }
+    ensures room { length copies.new.items ≤ spare slots.new }
+{
+    if let Some(at) = slots.get_index_of(key) {
+        return at;
+    }
+    let Some(copy) = copies.pop() else {
+        unreachable!();
+    };
+    let Some(slot) = pool.take(owner) else {
+        unreachable!();
+    };
+    if let Err(_) = slots.insert(copy, slot) {
+        unreachable!();
+    }
+    slots.len() - 1
 }
