@@ -145,7 +145,7 @@ module _ (t : KeptGroups) (key : List Value) (states : List AggState) where
     once = once;
   }
 
-none_from : {X : Type 0} (o : Option X) → is_some o ≡ false → o ≡ None
+pub none_from : {X : Type 0} (o : Option X) → is_some o ≡ false → o ≡ None
 none_from None e = refl
 none_from (Some x) e = cc
 

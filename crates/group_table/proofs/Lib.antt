@@ -3,3 +3,4 @@ mod KeptSteps
 pub mod GroupsLemmas
 pub mod SlotFrames
 mod PooledSteps
+pub mod NewKeys

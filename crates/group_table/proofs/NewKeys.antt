@@ -1,0 +1,55 @@
+-- The keys of some entries that are not among others.
+use Rattle.std.proofs.Common.{◌≡◌, ◌∙◌, ℕ, zero, suc, ◌+◌, ◌≤◌, Bool, true, false, cond, List, [], ◌∷◌, ◌++◌, length, drop, Some, refl, sym, ap, arith, slice_get, length-append}
+use Rattle.std.specs.Map.{keys_of}
+use Rattle.std.specs.List.{AllByRecursion}
+use Rattle.values.specs.declared.value.Value.{Value}
+use Rattle.state_pool.specs.Pool.{Place}
+use Rattle.state_pool.proofs.SlotLemmas.{none_some}
+use Rattle.group_table.specs.Pooled.{new_keys, place_at}
+
+-- the keys from that of an entry on
+pub drop_keys : {V : Type 0} (es : List (List Value × V)) (i : ℕ) (k : List Value) (v : V) → Some (k, v) ≡ slice_get es i
+    → drop i (keys_of es) ≡ k ∷ drop (i + 1) (keys_of es)
+drop_keys [] i k v e = absurd (none_some (sym e))
+drop_keys (x ∷ es) zero k v e = let is : (k, v) ≡ x = cc in ap (λ y. y.0 ∷ keys_of es) (sym is)
+drop_keys (x ∷ es) (suc i) k v e = drop_keys es i k v e ∙ ap (λ n. k ∷ drop n (x.0 ∷ keys_of es)) (let same : suc (i + 1) ≡ suc i + 1 = omega arith in same)
+
+pub length-keys : {V : Type 0} (es : List (List Value × V)) → length (keys_of es) ≡ length es
+length-keys [] = refl
+length-keys (e ∷ es) = ap suc (length-keys es)
+
+pub drop_all : {X : Type 0} (xs : List X) (n : ℕ) → length xs ≤ n → drop n xs ≡ []
+drop_all [] n le = drop_none n
+  where
+    drop_none : {Y : Type 0} (n : ℕ) → drop {A = Y} n [] ≡ []
+    drop_none zero = refl
+    drop_none (suc n) = refl
+drop_all (x ∷ xs) zero le = absurd (omega (arith, le))
+drop_all (x ∷ xs) (suc n) le = drop_all xs n (omega (arith, le))
+
+module _ (there : List Value → Bool) (k : List Value) (ks : List (List Value)) where
+  pub new_there : there k ≡ true → new_keys there (k ∷ ks) ≡ new_keys there ks
+  new_there t = ap (λ b. cond b (new_keys there ks) (new_keys there ks ++ k ∷ [])) t
+
+  pub new_absent : there k ≡ false → new_keys there (k ∷ ks) ≡ new_keys there ks ++ k ∷ []
+  new_absent t = ap (λ b. cond b (new_keys there ks) (new_keys there ks ++ k ∷ [])) t
+
+  pub more_absent : there k ≡ false → length (new_keys there (k ∷ ks)) ≡ length (new_keys there ks) + 1
+  more_absent t = ap length (new_absent t) ∙ length-append (new_keys there ks) (k ∷ [])
+
+-- only the keys in question matter
+pub new_same : (a b : List Value → Bool) (ks : List (List Value)) → AllByRecursion (λ k. a k ≡ b k) ks → new_keys a ks ≡ new_keys b ks
+new_same a b [] h = refl
+new_same a b (k ∷ ks) h = λ i. cond (h.0 i) (new_same a b ks h.1 i) (new_same a b ks h.1 i ++ k ∷ [])
+
+-- the last of two equal lists
+pub last_same : {X : Type 0} (xs ys : List X) (x y : X) → xs ++ x ∷ [] ≡ ys ++ y ∷ [] → x ≡ y
+last_same [] [] x y e = cc
+last_same [] (z ∷ ys) x y e = absurd (omega (arith, ap length e, length-append ys (y ∷ [])))
+last_same (z ∷ xs) [] x y e = absurd (omega (arith, ap length e, length-append xs (x ∷ [])))
+last_same (z ∷ xs) (w ∷ ys) x y e = let rest : xs ++ x ∷ [] ≡ ys ++ y ∷ [] = cc in last_same xs ys x y rest
+
+-- the place of the last entry
+pub place_last : (es : List (List Value × Place)) (k : List Value) (s : Place) → place_at (es ++ (k, s) ∷ []) (length es) ≡ s
+place_last [] k s = refl
+place_last (e ∷ es) k s = place_last es k s
