@@ -4,3 +4,4 @@ pub mod GroupsLemmas
 pub mod SlotFrames
 mod PooledSteps
 pub mod NewKeys
+mod AbsorbSteps

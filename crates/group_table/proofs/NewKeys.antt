@@ -53,3 +53,19 @@ last_same (z ∷ xs) (w ∷ ys) x y e = let rest : xs ++ x ∷ [] ≡ ys ++ y �
 pub place_last : (es : List (List Value × Place)) (k : List Value) (s : Place) → place_at (es ++ (k, s) ∷ []) (length es) ≡ s
 place_last [] k s = refl
 place_last (e ∷ es) k s = place_last es k s
+
+pub init_same : {X : Type 0} (xs ys : List X) (x y : X) → xs ++ x ∷ [] ≡ ys ++ y ∷ [] → xs ≡ ys
+init_same [] [] x y e = refl
+init_same [] (z ∷ ys) x y e = absurd (omega (arith, ap length e, length-append ys (y ∷ [])))
+init_same (z ∷ xs) [] x y e = absurd (omega (arith, ap length e, length-append xs (x ∷ [])))
+init_same (z ∷ xs) (w ∷ ys) x y e =
+    let head : z ≡ w = cc in
+    let rest : xs ++ x ∷ [] ≡ ys ++ y ∷ [] = cc in λ i. head i ∷ init_same xs ys x y rest i
+
+pub length-new : (there : List Value → Bool) (ks : List (List Value)) → length (new_keys there ks) ≤ length ks
+length-new there [] = omega arith
+length-new there (k ∷ ks) = by (there k) (length-new there ks)
+  where
+    by : (b : Bool) → length (new_keys there ks) ≤ length ks → length (cond b (new_keys there ks) (new_keys there ks ++ k ∷ [])) ≤ suc (length ks)
+    by true le = omega (arith, le)
+    by false le = omega (arith, le, length-append (new_keys there ks) (k ∷ []))

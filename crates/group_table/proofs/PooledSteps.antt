@@ -24,13 +24,13 @@ use Rattle.group_table.proofs.SlotFrames as frames
 
 -- ---- the groups of slots
 
-abbrev Entries : Type 0
+abbrev pub Entries : Type 0
 Entries = List (List Value × Place)
 
 abbrev numbers : Entries → List ℕ
 numbers es = map (λ e. e.1.number) es
 
-abbrev AreOf : Pool → ℕ → Entries → Type 0
+abbrev pub AreOf : Pool → ℕ → Entries → Type 0
 AreOf pool owner es = AllByRecursion (λ e. IsSlotOf pool owner e.1) es
 
 pub group_lookup : (pool : Pool) (q : List Value) (es : List (List Value × Place))
@@ -154,7 +154,7 @@ module _ (t : PooledTable) (old new : Pool) (table : IsTableIn t old) (key : Lis
 -- ---- a group of a new key
 
 -- a look-up in entries of which the last is of a new key
-lookup_push : {X : Type 0} (es : List (List Value × X)) (k : List Value) (v : X) (q : List Value) → lookup (key_eq k) es ≡ None
+pub lookup_push : {X : Type 0} (es : List (List Value × X)) (k : List Value) (v : X) (q : List Value) → lookup (key_eq k) es ≡ None
     → lookup (key_eq q) (es ++ (k, v) ∷ []) ≡ cond (key_eq k q) (Some v) (lookup (key_eq q) es)
 lookup_push [] k v q none = ap (λ b. cond b (Some v) None) (key_equiv.symm q k)
 lookup_push (e ∷ es) k v q none = first (key_eq k e.0) refl none (λ less. lookup_push es k v q less)
