@@ -1,21 +1,20 @@
 -- A table merged into another one, entry by entry.
-use Rattle.std.proofs.Common.{◌≡◌, ◌≢◌, ◌∙◌, ℕ, ◌+◌, ◌<◌, ◌≤◌, ◌⊎◌, inl, inr, Bool, true, false, cond, List, [], ◌∷◌, ◌++◌, length, map, get_or, Option, Some, None, refl, sym, ap, subst, arith, is_some, length-append, unwrap_or}
+use Rattle.std.proofs.Common.{◌≡◌, ◌≢◌, ◌∙◌, ℕ, ◌+◌, ◌≤◌, ◌⊎◌, inl, inr, Bool, true, false, cond, List, [], ◌∷◌, ◌++◌, length, map, get_or, drop, slice_get, Option, Some, None, refl, sym, ap, subst, arith, is_some, length-append, unwrap_or}
 use Rattle.std.proofs.lemmas.Map.Keys.{IsDistinct-head, IsDistinct-tail}
 use Rattle.std.specs.FinMap as finite
 use Rattle.std.specs.List.{AllByRecursion, IsDistinct}
 use Rattle.std.specs.Map.{keys_of, lookup}
 use Rattle.std.specs.Option.{option_map, option_map_or}
-use Rattle.std.specs.Ordering.{eq_by_cmp}
 use Rattle.values.specs.declared.value.Value.{Value}
 use Rattle.agg_laws.specs.declared.states.AggState.{AggState}
 use Rattle.agg_laws.specs.Numbers.{most_values}
 use Rattle.agg_laws.specs.Rows.{kinds_of, merged_rows, RowFits}
-use Rattle.state_pool.specs.Pool.{Pool, Place, Slots, Writes, Takes, IsOut, held, kinds_at, quota_of, slots_of, states_at}
-use Rattle.group_table.specs.Groups.{Group, Groups, key_order, merged_in, with_entries, with_states}
-use Rattle.group_table.specs.Kept.{KeptGroups, groups_in, key_eq, HaveValues, IsGroup, IsTable, Merges}
-use Rattle.group_table.specs.Pooled.{PooledTable, group_in, in_pool, IsSlotOf, HoldsAll, IsTableIn, IsBeside, AllFit, MergesAll, StaysIn, KeepsOthers, MergesIn, Starts, Finds, Places, slot_at, place_at, with_slots, has_slot, new_keys}
+use Rattle.state_pool.specs.Pool.{Pool, Place, Slots, Writes, Takes, IsOut, held, kinds_at, quota_of, states_at}
+use Rattle.group_table.specs.Groups.{Group, Groups, merged_in, with_entries, with_states}
+use Rattle.group_table.specs.Kept.{groups_in, key_eq, IsGroup}
+use Rattle.group_table.specs.Pooled.{PooledTable, group_in, in_pool, IsSlotOf, IsTableIn, IsBeside, AllFit, MergesAll, StaysIn, KeepsOthers, MergesIn, Starts, Finds, Places, slot_at, place_at, with_slots, has_slot, new_keys}
 use Rattle.group_table.proofs.KeptLemmas.{key_total, key_equiv, key_ties, get_lookup}
-use Rattle.group_table.proofs.NewKeys.{new_there, new_absent, new_same, init_same, length-new}
+use Rattle.group_table.proofs.NewKeys.{new_there, new_absent, new_same, init_same, drop_next}
 use Rattle.group_table.proofs.PooledSteps.{Entries, AreOf, group_lookup, group_keys, lookup_push, counted}
 use Rattle.group_table.proofs.PooledSteps as steps
 use Rattle.group_table.proofs.SlotFrames as frames
@@ -31,9 +30,10 @@ other_key g k q s ne = finite.get-insert key_total g k (with_states g k s) q
 fits_still : (g : Groups) (k : List Value) (s : List AggState) (es : List Group) → AllByRecursion (λ q. key_eq k q ≡ false) (keys_of es)
     → AllFit g es → AllFit (merged_in g k s) es
 fits_still g k s [] other fits = tt
-fits_still g k s (e ∷ es) other fits =
-    (subst (λ (o : Option (List AggState)). RowFits (option_map_or (λ own. merged_rows own e.1) o e.1) most_values) (sym (other_key g k e.0 s other.0)) fits.0,
-    fits_still g k s es other.1 fits.1)
+fits_still g k s (e ∷ es) other fits = (
+  subst (λ (o : Option (List AggState)). RowFits (option_map_or (λ own. merged_rows own e.1) o e.1) most_values) (sym (other_key g k e.0 s other.0)) fits.0,
+  fits_still g k s es other.1 fits.1,
+)
 
 -- ---- how many groups there are of both
 
@@ -89,6 +89,10 @@ len_both t pool es table once =
     ∙ ap (λ l. length t.slots + length l) (new_same (get_there (groups_in (in_pool t pool))) (has_slot t.slots) (keys_of es)
     (all_keys (λ q. get_there (groups_in (in_pool t pool)) q ≡ has_slot t.slots q) (keys_of es) (slot_there t pool)))
 
+pub count_both : (t from : PooledTable) (pool : Pool) → IsTableIn t pool → IsBeside t pool from
+    → finite.len (with_entries (groups_in (in_pool t pool)) (in_pool from pool).groups) ≡ length t.slots + length (new_keys (has_slot t.slots) (keys_of from.slots))
+count_both t from pool table beside = len_both t pool from.slots table (subst (IsDistinct key_eq) (group_keys pool from.slots) beside.table.is_table.once)
+
 -- ---- what another owner holds
 
 module _ (mine owner : ℕ) (apart : owner ≢ mine) (old new : Pool) (keeps : KeepsOthers mine old new) where
@@ -136,6 +140,11 @@ left_all t from pool copies table beside fits copied room = record {
   copied = copied;
   room = room;
 }
+
+-- the next entry
+pub left_at : (t : PooledTable) (pool : Pool) (owner : ℕ) (copies : List (List Value)) (es : Entries) (at : ℕ) (key : List Value) (slot : Place) (ends : Groups)
+    → Left t pool owner copies (drop at es) ends → Some (key, slot) ≡ slice_get es at → Left t pool owner copies ((key, slot) ∷ drop (at + 1) es) ends
+left_at t pool owner copies es at key slot ends left is = subst (λ (rest : Entries). Left t pool owner copies rest ends) (drop_next es at (key, slot) is) left
 
 module _ (t : PooledTable) (pool : Pool) (owner : ℕ) (copies : List (List Value)) (e : List Value × Place) (rest : Entries) (ends : Groups)
     (left : Left t pool owner copies (e ∷ rest) ends) (apart : owner ≢ t.owner) where
@@ -221,20 +230,25 @@ module _ (t : PooledTable) (pool : Pool) (owner : ℕ) (copies : List (List Valu
           ⊎ ((lookup (key_eq e.0) t.slots ≡ None) × (new_slots ≡ t.slots ++ (e.0, own) ∷ []) × IsDistinct key_eq (keys_of new_slots)
           × Takes t.owner own pool mid × (copies ≡ left_copies ++ e.0 ∷ []))
           → (left_copies ≡ new_keys (has_slot new_slots) (keys_of rest)) × (length left_copies + length new_slots ≤ t.most)
-      copied_next (inl h) =
-          (h.3 ∙ left.copied ∙ new_there (has_slot t.slots) e.0 (keys_of rest) (ap is_some h.0)
-          ∙ ap (λ es. new_keys (has_slot es) (keys_of rest)) (sym h.1),
-          omega (arith, left.room, ap length h.3, ap length h.1))
-      copied_next (inr h) =
-          (init_same left_copies (new_keys (has_slot t.slots) (keys_of rest)) e.0 e.0
-          (sym h.4 ∙ left.copied ∙ new_absent (has_slot t.slots) e.0 (keys_of rest) (ap is_some h.0))
-          ∙ new_same (has_slot t.slots) (has_slot new_slots) (keys_of rest) (still (keys_of rest) others),
-          omega (arith, left.room, ap length h.4, length-append left_copies (e.0 ∷ []), ap length h.1, length-append t.slots ((e.0, own) ∷ [])))
+      copied_next (inl h) = (
+        h.3 ∙ left.copied ∙ new_there (has_slot t.slots) e.0 (keys_of rest) (ap is_some h.0)
+            ∙ ap (λ es. new_keys (has_slot es) (keys_of rest)) (sym h.1),
+        omega (arith, left.room, ap length h.3, ap length h.1),
+      )
+      copied_next (inr h) = (
+        init_same left_copies (new_keys (has_slot t.slots) (keys_of rest)) e.0 e.0
+            (sym h.4 ∙ left.copied ∙ new_absent (has_slot t.slots) e.0 (keys_of rest) (ap is_some h.0))
+            ∙ new_same (has_slot t.slots) (has_slot new_slots) (keys_of rest) (still (keys_of rest) others),
+        omega (arith, left.room, ap length h.4, length-append left_copies (e.0 ∷ []), ap length h.1, length-append t.slots ((e.0, own) ∷ [])),
+      )
         where
           still : (ks : List (List Value)) → AllByRecursion (λ q. key_eq e.0 q ≡ false) ks → AllByRecursion (λ q. has_slot t.slots q ≡ has_slot new_slots q) ks
           still [] other = tt
-          still (q ∷ ks) other = (sym (ap (λ es. has_slot es q) h.1 ∙ ap is_some (lookup_push t.slots e.0 own q h.0
-              ∙ ap (λ b. cond b (Some own) (lookup (key_eq q) t.slots)) other.0)), still ks other.1)
+          still (q ∷ ks) other = (
+            sym (ap (λ es. has_slot es q) h.1 ∙ ap is_some (lookup_push t.slots e.0 own q h.0
+                ∙ ap (λ b. cond b (Some own) (lookup (key_eq q) t.slots)) other.0)),
+            still ks other.1,
+          )
 
       pub left_next : Left grown new owner left_copies rest ends
       left_next = record {

@@ -14,6 +14,18 @@ drop_keys [] i k v e = absurd (none_some (sym e))
 drop_keys (x ∷ es) zero k v e = let is : (k, v) ≡ x = cc in ap (λ y. y.0 ∷ keys_of es) (sym is)
 drop_keys (x ∷ es) (suc i) k v e = drop_keys es i k v e ∙ ap (λ n. k ∷ drop n (x.0 ∷ keys_of es)) (let same : suc (i + 1) ≡ suc i + 1 = omega arith in same)
 
+-- the entries from one on
+pub drop_next : {X : Type 0} (es : List X) (i : ℕ) (x : X) → Some x ≡ slice_get es i → drop i es ≡ x ∷ drop (i + 1) es
+drop_next [] i x e = absurd (none_some (sym e))
+drop_next (y ∷ es) zero x e = let is : x ≡ y = cc in ap (λ z. z ∷ es) (sym is)
+drop_next (y ∷ es) (suc i) x e = drop_next es i x e ∙ ap (λ n. x ∷ drop n (y ∷ es)) (let same : suc (i + 1) ≡ suc i + 1 = omega arith in same)
+
+-- the slot of an entry
+pub place_get : (es : List (List Value × Place)) (at : ℕ) (k : List Value) (s : Place) → Some (k, s) ≡ slice_get es at → s ≡ place_at es at
+place_get [] at k s e = absurd (none_some (sym e))
+place_get (x ∷ es) zero k s e = let is : (k, s) ≡ x = cc in ap (λ y. y.1) is
+place_get (x ∷ es) (suc at) k s e = place_get es at k s e
+
 pub length-keys : {V : Type 0} (es : List (List Value × V)) → length (keys_of es) ≡ length es
 length-keys [] = refl
 length-keys (e ∷ es) = ap suc (length-keys es)

@@ -13,16 +13,16 @@ loop-at-preserved c =
     let rest = drop (c.loop-at.at + 1) ks in
     let step : drop c.loop-at.at ks ≡ key ∷ rest = drop_keys c.args.from.now.entries c.loop-at.at key c.in-Some.field-0-1.now c.in-Some.ensures.entry in
     elim c.if-is_none.branch [
-      then-is_none w ↦
-        let absent : there key ≡ false = search rules in
-        let more = ap (λ l. length (new_keys there l)) step ∙ more_absent there key rest absent in record {
-          few = omega (arith, w.count-is, c.loop-at.invariant.few);
-          counted = omega (arith, w.count-is, more, c.loop-at.invariant.counted);
-        }
+      | then-is_none w ↦
+          let absent : there key ≡ false = search rules in
+          let more = ap (λ l. length (new_keys there l)) step ∙ more_absent there key rest absent in record {
+            few = omega (arith, w.count-is, c.loop-at.invariant.few);
+            counted = omega (arith, w.count-is, more, c.loop-at.invariant.counted);
+          }
       | else-is_none w ↦
-        let present : there key ≡ true = search rules in
-        let same = ap (λ l. length (new_keys there l)) step ∙ ap length (new_there there key rest present) in record {
-          few = omega (arith, w.count-is, c.loop-at.invariant.few);
-          counted = omega (arith, w.count-is, same, c.loop-at.invariant.counted);
-        }
+          let present : there key ≡ true = search rules in
+          let same = ap (λ l. length (new_keys there l)) step ∙ ap length (new_there there key rest present) in record {
+            few = omega (arith, w.count-is, c.loop-at.invariant.few);
+            counted = omega (arith, w.count-is, same, c.loop-at.invariant.counted);
+          }
     ]
