@@ -1,5 +1,5 @@
 -- A table merged into another one, entry by entry.
-use Rattle.std.proofs.Common.{◌≡◌, ◌≢◌, ◌∙◌, ℕ, ◌+◌, ◌≤◌, ◌⊎◌, inl, inr, Bool, true, false, cond, List, [], ◌∷◌, ◌++◌, length, map, get_or, drop, slice_get, Option, Some, None, refl, sym, ap, subst, arith, is_some, length-append, unwrap_or}
+use Rattle.std.proofs.Common.{◌≡◌, ◌≢◌, ◌∙◌, ℕ, ◌+◌, ◌<◌, ◌≤◌, ◌⊎◌, inl, inr, Bool, true, false, cond, List, [], ◌∷◌, ◌++◌, length, map, get_or, drop, slice_get, Option, Some, None, refl, sym, ap, subst, arith, is_some, length-append, unwrap_or}
 use Rattle.std.proofs.lemmas.Map.Keys.{IsDistinct-head, IsDistinct-tail}
 use Rattle.std.specs.FinMap as finite
 use Rattle.std.specs.List.{AllByRecursion, IsDistinct}
@@ -11,8 +11,8 @@ use Rattle.agg_laws.specs.Numbers.{most_values}
 use Rattle.agg_laws.specs.Rows.{kinds_of, merged_rows, RowFits}
 use Rattle.state_pool.specs.Pool.{Pool, Place, Slots, Writes, Takes, IsOut, held, kinds_at, quota_of, states_at}
 use Rattle.group_table.specs.Groups.{Group, Groups, merged_in, with_entries, with_states}
-use Rattle.group_table.specs.Kept.{groups_in, key_eq, IsGroup}
-use Rattle.group_table.specs.Pooled.{PooledTable, group_in, in_pool, IsSlotOf, IsTableIn, IsBeside, AllFit, MergesAll, StaysIn, KeepsOthers, MergesIn, Starts, Finds, Places, slot_at, place_at, with_slots, has_slot, new_keys}
+use Rattle.group_table.specs.Kept.{groups_in, key_eq, IsGroup, IsTable}
+use Rattle.group_table.specs.Pooled.{PooledTable, group_in, in_pool, IsSlotOf, HoldsAll, IsTableIn, IsBeside, AllFit, MergesAll, StaysIn, KeepsOthers, MergesIn, Starts, Finds, Places, slot_at, place_at, with_slots, has_slot, new_keys}
 use Rattle.group_table.proofs.KeptLemmas.{key_total, key_equiv, key_ties, get_lookup}
 use Rattle.group_table.proofs.NewKeys.{new_there, new_absent, new_same, init_same, drop_next}
 use Rattle.group_table.proofs.PooledSteps.{Entries, AreOf, group_lookup, group_keys, lookup_push, counted}
@@ -276,3 +276,34 @@ merges_all t u old new owner copies rest groups left none columns most stays = r
   most = most;
   groups_are = ap (λ (es : Entries). with_entries (groups_in (in_pool u new)) (map (group_in new) es)) (sym none) ∙ left.ends_are;
 }
+
+-- ---- the other table
+
+-- what another owner's table keeps in the pool is as it was
+pub still_beside : (t u from : PooledTable) (old new : Pool) → IsBeside t old from → StaysIn t old u new → u.columns ≡ t.columns → IsBeside u new from
+still_beside t u from old new beside stays columns = record {
+  table = record { holds = holds; is_table = subst IsTable (sym same) beside.table.is_table };
+  apart = λ is. beside.apart (is ∙ stays.owner);
+  columns = beside.columns ∙ sym columns;
+  kinds = kinds_still from.owner ∙ beside.kinds ∙ sym (kinds_still t.owner) ∙ ap (kinds_at new) (sym stays.owner);
+}
+  where
+    kinds_still : (owner : ℕ) → kinds_at new owner ≡ kinds_at old owner
+    kinds_still owner = ap (λ kss. get_or kss owner []) stays.keeps.kinds
+
+    holds : HoldsAll from new
+    holds = record {
+      known = subst (λ (qs : List ℕ). from.owner < length qs) (sym stays.keeps.quotas) beside.table.holds.known;
+      quota = beside.table.holds.quota ∙ sym (ap (λ qs. get_or qs from.owner 0) stays.keeps.quotas);
+      each = other_each t.owner from.owner beside.apart old new stays.keeps from.slots beside.table.holds.each;
+      apart = beside.table.holds.apart;
+      all = beside.table.holds.all ∙ ap finite.len (sym (stays.keeps.others from.owner beside.apart));
+    }
+
+    same : in_pool from new ≡ in_pool from old
+    same = λ i. record {
+      columns = from.columns;
+      kinds = kinds_still from.owner i;
+      most = from.most;
+      groups = other_groups t.owner from.owner beside.apart old new stays.keeps from.slots beside.table.holds.each i;
+    }

@@ -222,6 +222,7 @@ impl GroupTable {
         ensures full { let old = in_pool self.old pool.old in (result ≡ Err TooManyGroups)
             ↔ (old.most < finite.len (with_entries (groups_in old)
             (in_pool from.now pool.old).groups)) }
+        ensures beside { IsBeside self.new pool.new from.now }
     {
         if self.slots.len() + count_new(&self.slots, &from.slots) > self.most as usize {
             return Err(TableFault::TooManyGroups);

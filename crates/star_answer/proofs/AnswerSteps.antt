@@ -27,7 +27,8 @@ use Rattle.star_reader.specs.declared.asked.Asked.{Asked}
 use Rattle.star_reader.specs.declared.asked.GroupColumn.{GroupColumn}
 use Rattle.star_reader.specs.declared.tree_part.TreePart.{TreePart}
 use Rattle.star_reader.specs.Asked.{AreSound, HasKey, entries_of, key_of, value_of}
-use Rattle.star_reader.specs.Entries.{MergesEntries, with_entries}
+use Rattle.group_table.specs.Groups.{with_entries}
+use Rattle.star_reader.specs.Entries.{MergesEntries}
 use Rattle.star_reader.specs.Selected.{AreKeyIds, ArePicked, MayBeSelected, key_ids, key_values, keyed, selected_doc, selected_docs}
 use Rattle.star_answer.proofs.EntryLemmas.{merges_so}
 use Rattle.star_reader.proofs.TakeSteps.{keyed_back, keyed_from}

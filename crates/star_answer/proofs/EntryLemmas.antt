@@ -11,12 +11,12 @@ use Rattle.agg_laws.specs.Rows.{RowFits, merged_rows}
 use Rattle.agg_laws.specs.Merged.{join_some, total}
 use Rattle.state_columns.proofs.DocLemmas.{rows_join}
 use Rattle.state_columns.proofs.MergedLemmas.{join_assoc, join_none}
-use Rattle.group_table.specs.Groups.{Group, Groups, key_order, merged_in, with_states}
+use Rattle.group_table.specs.Groups.{Group, Groups, key_order, merged_in, with_entries, with_states}
 use Rattle.group_table.specs.Kept.{IsNewKey, KeptGroups, Merges, groups_in}
 use Rattle.group_table.proofs.KeptLemmas.{key_same, key_total}
 use Rattle.scan_engine.specs.Scanned.{HaveAtMost}
 use Rattle.scan_engine.proofs.AddLemmas.{at_most_more, merged_fits, new_one}
-use Rattle.star_reader.specs.Entries.{MergesEntries, with_entries}
+use Rattle.star_reader.specs.Entries.{MergesEntries}
 
 -- the states of a key among some entries
 abbrev pub states_at : List Value → List Group → Option (List AggState)

@@ -26,12 +26,12 @@ use Rattle.state_columns.proofs.ListLemmas.{same_dims}
 use Rattle.std.proofs.lemmas.Cmp.{nat_list_cmp_total}
 use Rattle.state_columns.proofs.MergedLemmas.{total-Merged, total-rekey}
 use Rattle.state_columns.proofs.WeightLemmas.{weights-append, weights-Merged}
-use Rattle.group_table.specs.Groups.{Group, Groups, key_order}
+use Rattle.group_table.specs.Groups.{Group, Groups, key_order, with_entries}
 use Rattle.group_table.specs.Kept.{HaveValues, IsNewKey, KeptGroups, Merges, groups_in}
 use Rattle.scan_engine.specs.Scanned.{HaveAtMost}
 use Rattle.scan_engine.proofs.AddLemmas.{at_most_more}
 use Rattle.star_reader.specs.declared.asked.GroupColumn.{GroupColumn}
-use Rattle.star_reader.specs.Entries.{MergesEntries, with_entries}
+use Rattle.star_reader.specs.Entries.{MergesEntries}
 use Rattle.star_reader.specs.Selected.{AreKeyIds, key_values, keyed}
 use Rattle.star_answer.proofs.EntryLemmas.{merges_next, merges_none, merges_so, no_room, same_entries, states_at}
 

@@ -41,7 +41,7 @@ use Rattle.table_schema.specs.declared.query.BoundQuery.{BoundQuery}
 use Rattle.table_schema.specs.Columns.{is_member}
 use Rattle.table_schema.specs.Conditions.{all_hold, cell}
 use Rattle.group_table.specs.Groups.{Adds, Groups, has_key, key_order, number_for}
-use Rattle.group_table.specs.Groups.{some_states}
+use Rattle.group_table.specs.Groups.{some_states, with_entries}
 use Rattle.group_table.specs.Groups as table
 use Rattle.group_table.specs.Kept.{IsTableOf, KeptGroups, groups_in}
 use Rattle.group_table.specs.Shape.{shape_of}
@@ -53,7 +53,6 @@ use Rattle.star_reader.specs.declared.asked.GroupColumn.{GroupColumn}
 use Rattle.star_reader.specs.declared.tree_part.TreePart.{TreePart}
 use Rattle.star_reader.specs.Answers.{Answers, AreRead, IsOverfull, IsTree, asked_of, left_of, passed, picks_of, reads_of, selected_of, IsBad}
 use Rattle.star_reader.specs.Asked.{AreAsked, entries_of, key_of, states_of, value_of, AreSound}
-use Rattle.star_reader.specs.Entries.{with_entries}
 use Rattle.star_answer.specs.Served.{AreProjected, IsProjected, IsServed, flat_of}
 use Rattle.segment_reads.specs.Docs.{field_of}
 use Rattle.star_answer.proofs.EntryLemmas.{entries_at, states_at}

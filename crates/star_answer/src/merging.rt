@@ -9,7 +9,8 @@ ghost use Rattle.agg_laws.specs.Merged.{weights};
 ghost use Rattle.group_table.specs.declared.fault.TableFault.TheVariants.{TooManyGroups};
 ghost use Rattle.group_table.specs.Kept.{groups_in};
 ghost use Rattle.group_table.specs.Pooled.{IsTableIn, StaysIn, in_pool};
-ghost use Rattle.star_reader.specs.Entries.{MergesEntries, with_entries};
+ghost use Rattle.group_table.specs.Groups.{with_entries};
+ghost use Rattle.star_reader.specs.Entries.{MergesEntries};
 ghost use Rattle.star_reader.specs.Selected.{keyed};
 ghost use Rattle.star_answer.specs.Merging.{CanMerge};
 

@@ -23,7 +23,8 @@ use Rattle.star_reader.specs.declared.tree_part.TreePart.{TreePart}
 use Rattle.star_reader.specs.Asked.{AreAsked, AreSound, IsTableFor, entries_of}
 use Rattle.agg_laws.specs.Numbers.{most_stored, most_values}
 use Rattle.scan_engine.specs.Scanned.{HaveAtMost}
-use Rattle.star_reader.specs.Entries.{MergesEntries, with_entries}
+use Rattle.group_table.specs.Groups.{with_entries}
+use Rattle.star_reader.specs.Entries.{MergesEntries}
 
 -- nodes of some documents that keep all rules, and a count for each dimension
 pub record IsTree (tree : TreePart) (task : Task) : Type 0 where

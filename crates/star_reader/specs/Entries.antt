@@ -1,13 +1,8 @@
 -- Keys with states, merged into groups.
-use Rattle.std.specs.Prelude.{◌≡◌, ℕ, ◌+◌, List, [], ◌∷◌}
-use Rattle.group_table.specs.Groups.{Group, Groups, merged_in}
+use Rattle.std.specs.Prelude.{◌≡◌, ℕ, ◌+◌, List}
+use Rattle.group_table.specs.Groups.{Group, with_entries}
 use Rattle.group_table.specs.Kept.{KeptGroups, groups_in}
 use Rattle.scan_engine.specs.Scanned.{HaveAtMost}
-
--- the groups with these states merged in, each into the group of its key
-abbrev pub with_entries : Groups → List Group → Groups
-with_entries groups [] = groups
-with_entries groups (e ∷ es) = with_entries (merged_in groups e.0 e.1) es
 
 -- the table with these states merged in, which stand for so many rows
 pub record MergesEntries (rows : ℕ) (entries : List Group) (old new : KeptGroups) : Type 0 where

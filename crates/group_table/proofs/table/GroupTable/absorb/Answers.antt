@@ -165,3 +165,7 @@ loop-at-preserved c =
           (steps.stays_next t c.loop-at.pool from.owner c.loop-at.copies.items (key, other) rest ends left apart c.place_in-place.result slots mid c.place_in-place.new.copies.items c.place_in-place.ensures.placed new writes);
       left = steps.left_next t c.loop-at.pool from.owner c.loop-at.copies.items (key, other) rest ends left apart c.place_in-place.result slots mid c.place_in-place.new.copies.items c.place_in-place.ensures.placed new writes;
     }
+
+pub returns-clause-beside : goal.returns-clause-beside
+returns-clause-beside c = steps.still_beside c.args.self.now (the_view c.loop-at.self-inside) c.args.from.now c.args.pool.now c.loop-at.pool c.requires.from
+    c.loop-at.invariant.stays c.loop-at.invariant.columns
