@@ -1,5 +1,5 @@
 //! Sets of documents, as runs or with a bit for each document.
-ghost use Rattle.std.specs.Prelude.{◌≡◌, ◌<◌, ◌+◌, ◌&&◌, ◌||◌, All, not, length, IfOk};
+ghost use Rattle.std.specs.Prelude.{◌≡◌, ◌<◌, ◌+◌, ◌&&◌, ◌||◌, [], All, not, true, length, IfOk};
 ghost use Rattle.std.specs.List.Sorted.{IsStrictlyIncreasing};
 ghost use Rattle.doc_lists.specs.Docs.{has_doc};
 ghost use Rattle.doc_lists.specs.Marks.{AreMarksOf};
@@ -9,6 +9,9 @@ use crate::marks::{add_marks, docs_marked, keep_both, marks_of_docs, marks_of_ru
 use crate::{DocList, NoMemory, sets};
 use std::alloc::Global;
 use std::marker::Model;
+
+// Two lists are met run by run where one of them has so few runs, and else word by word.
+const FEW_RUNS: usize = 1024;
 
 /// A set of documents, which contracts see as a list of them, ascending and without repeats. It is
 /// kept as runs, or as words with a bit for each document, which two sets are met by without a look
@@ -69,6 +72,26 @@ impl DocSet {
         }
     }
 
+    // The documents as a list of its own.
+    fn listed(&self, alloc: Global) -> Result<DocList, NoMemory>
+        ensures { IfOk result (λ docs. docs ≡ self.now) }
+    {
+        match &self.kept {
+            Kept::Runs(list) => list.copied(alloc),
+            Kept::Words(marks) => docs_marked(alloc, marks.as_slice()),
+        }
+    }
+
+    // Whether it is a list of no documents.
+    fn has_none(&self) -> bool
+        ensures { result ≡ true → self.now ≡ [] }
+    {
+        match &self.kept {
+            Kept::Runs(list) => list.is_empty(),
+            Kept::Words(_) => false,
+        }
+    }
+
     // A set ascends.
     fn ascends(&self)
         ensures { IsStrictlyIncreasing self.now }
@@ -98,7 +121,9 @@ pub fn meet(alloc: Global, a: &DocSet, b: &DocSet) -> Result<DocSet, NoMemory>
     ensures { IfOk result (AreThose (λ doc. has_doc a.now doc && has_doc b.now doc)) }
 {
     if let (Kept::Runs(ours), Kept::Runs(theirs)) = (&a.kept, &b.kept) {
-        return Ok(DocSet::of_list(sets::meet(alloc, ours, theirs)?));
+        if ours.runs().len().min(theirs.runs().len()) <= FEW_RUNS {
+            return Ok(DocSet::of_list(sets::meet(alloc, ours, theirs)?));
+        }
     }
     let mut marks = a.words(alloc)?;
     let others = b.words(alloc)?;
@@ -153,6 +178,10 @@ pub fn parted(alloc: Global, docs: &DocSet, others: &DocSet) -> Result<(DocList,
     ensures count { IfOk result (λ parts. length parts.0 + length parts.1 ≡ length docs.now) }
 {
     docs.ascends();
+    if others.has_none() {
+        let all = docs.listed(alloc)?;
+        return Ok((DocList::new(alloc), all));
+    }
     let both = meet(alloc, docs, others)?;
     let alone = without(alloc, docs, others)?;
     let both = both.into_list(alloc)?;
