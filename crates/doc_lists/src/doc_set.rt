@@ -1,5 +1,5 @@
 //! Sets of documents, as runs or with a bit for each document.
-ghost use Rattle.std.specs.Prelude.{◌≡◌, ◌<◌, ◌+◌, ◌&&◌, ◌||◌, [], All, not, true, length, IfOk};
+ghost use Rattle.std.specs.Prelude.{◌≡◌, ◌<◌, ◌+◌, ◌&&◌, ◌||◌, [], All, not, true, length, IfOk, IfSome};
 ghost use Rattle.std.specs.List.Sorted.{IsStrictlyIncreasing};
 ghost use Rattle.doc_lists.specs.Docs.{has_doc};
 ghost use Rattle.doc_lists.specs.Marks.{AreMarksOf};
@@ -12,6 +12,9 @@ use std::marker::Model;
 
 // Two lists are met run by run where one of them has so few runs, and else word by word.
 const FEW_RUNS: usize = 1024;
+
+// So few documents of a list are looked at one by one in the words that it is met with.
+const FEW_DOCS: usize = 32_768;
 
 /// A set of documents, which contracts see as a list of them, ascending and without repeats. It is
 /// kept as runs, or as words with a bit for each document, which two sets are met by without a look
@@ -125,12 +128,32 @@ pub fn meet(alloc: Global, a: &DocSet, b: &DocSet) -> Result<DocSet, NoMemory>
             return Ok(DocSet::of_list(sets::meet(alloc, ours, theirs)?));
         }
     }
+    if let Some(both) = met_by_one(alloc, a, b)? {
+        return Ok(both);
+    }
+    if let Some(both) = met_by_one(alloc, b, a)? {
+        return Ok(both);
+    }
     let mut marks = a.words(alloc)?;
     let others = b.words(alloc)?;
     keep_both(&mut marks, others.as_slice());
     Ok(DocSet {
         kept: Kept::Words(marks),
     })
+}
+
+// The documents that are in both sets, where the first is a list of few and the second is words.
+fn met_by_one(alloc: Global, a: &DocSet, b: &DocSet) -> Result<Option<DocSet>, NoMemory>
+    ensures { IfOk result (λ found. IfSome found
+        (AreThose (λ doc. has_doc a.now doc && has_doc b.now doc))) }
+{
+    match (&a.kept, &b.kept) {
+        (Kept::Runs(list), Kept::Words(marks)) if list.len() <= FEW_DOCS => {
+            let both = sets::marked(alloc, list, marks.as_slice())?;
+            Ok(Some(DocSet::of_list(both)))
+        }
+        _ => Ok(None),
+    }
 }
 
 /// The documents that are in one of the sets or in both.
