@@ -25,6 +25,8 @@ pub use fault::ColumnFault;
 pub use id_range::IdRange;
 pub use laws::{postings_read_back, reads_back, sorted_reads_back, widths_are_least};
 pub use range::{append_narrow, append_range, read_range};
+pub use range_bytes::read_bytes;
 pub use reading::at;
+pub use unpacking::{put_ids, unpack};
 pub use width::{Width, width_for};
 pub use writing::write;
