@@ -69,7 +69,14 @@ pub fn append_range<S: Shelf>(
         (seen S.Shelf shelf.old) (seen S.Shelf shelf.new) }
 {
     if range.to - range.from != 1 {
-        return append_some(alloc, shelf, place, range, buffer, ids);
+        // A range that is lent to a call lies in memory: so it is another one, made for it.
+        let some = IdRange {
+            width: range.width,
+            count: range.count,
+            from: range.from,
+            to: range.to,
+        };
+        return append_some(alloc, shelf, place, some, buffer, ids);
     }
     let bit = range.from as u64 * range.width.bits as u64;
     let end = (range.to as u64 * range.width.bits as u64 + 7) / 8;
