@@ -28,7 +28,7 @@ pub no_ids : (width rows : ℕ) (bytes : List ℕ) → rows ≡ 0 → ids_betwee
 no_ids width rows bytes none = let e : rows - 0 ≡ 0 = omega (arith, none) in ap (λ n. pieces width (0 * width) n (bits_of 8 bytes)) e
 
 pub none_long : (l : List ℕ) → length l ≡ 0 → l ≡ []
-none_long l none = elim l as (λ xs. length xs ≡ 0 → xs ≡ []) [ | [] ↦ λ e. refl | x ∷ xs ↦ λ e. absurd (omega (arith, e)) ] none
+none_long l none = elim l as (λ xs. length xs ≡ 0 → xs ≡ []) [ [] ↦ λ e. refl | x ∷ xs ↦ λ e. absurd (omega (arith, e)) ] none
 
 -- nothing is read where there is no room for the ids
 pub growth_range : {A : Type 0} (r : Result A ColumnFault) (place : Place) (width count rows : ℕ) (old : Seen) → IsErr r × IsErrAnd r (λ f. f ≡ NoMemory) → ReadsRange r place width count 0 rows old old
@@ -94,6 +94,7 @@ module _ (u : Unit {0}) (place : Place) (width from to long : ℕ) (read bytes :
       is_bad : {P : Type 0} (r : Result (Unit {0}) ColumnFault) → OnErr r (¬ P) → r ≡ Err BadId → P → ⊥
       is_bad (Ok x) h is = absurd cc
       is_bad (Err e) h is = h
+
       is_other : (r : Result (Unit {0}) ColumnFault) → IfErr r (λ fault. fault ≡ BadId) → r ≡ Err ReadFault → ⊥
       is_other (Ok x) h is = absurd cc
       is_other (Err e) h is = let own : e ≡ BadId = h in absurd cc
