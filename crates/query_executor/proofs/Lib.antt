@@ -11,3 +11,4 @@ mod StatedLemmas
 pub mod OneReads
 pub mod PlanLemmas
 mod EmptyLemmas
+pub mod IdsLemmas

@@ -5,3 +5,4 @@ pub mod Explained
 pub mod Stated
 pub mod Passes
 pub mod Replies
+pub mod ByIds

@@ -145,8 +145,8 @@ impl Head {
         }
     }
 
-    // The dictionary of a column, where it lies in the file: four bytes are read at most.
-    fn in_file<S: Shelf>(
+    /// The dictionary of a column, where it lies in the file: four bytes are read at most.
+    pub(crate) fn in_file<S: Shelf>(
         &self,
         alloc: Global,
         shelf: &mut S,
@@ -197,8 +197,8 @@ fn are_below(ids: &[u32], count: u32) -> bool
     ids.iter().all(|id| *id < count)
 }
 
-// What a fault of a dictionary that is read where it lies is for the head.
-fn of_lookup(fault: LookupFault, column: u16) -> HeadFault
+/// What a fault of a dictionary that is read where it lies is for the head.
+pub(crate) fn of_lookup(fault: LookupFault, column: u16) -> HeadFault
     ensures bad { fault ≡ LookupFault.NoDictionary →
         result ≡ NotASegment (part.Dictionary column) }
     ensures memory { fault ≡ LookupFault.NoMemory → result ≡ HeadFault.NoMemory }

@@ -83,8 +83,8 @@ pub(crate) fn is_large(head: &Head, column: u16) -> bool {
     }
 }
 
-// Whether a test names a few values, or a range of them, that may be between others.
-fn names_few(test: &Test) -> bool {
+/// Whether a test names a few values, or a range of them, that may be between others.
+pub(crate) fn names_few(test: &Test) -> bool {
     match test {
         Test::Compare(CompareOp::Equal, _) => true,
         Test::OneOf(members, negated) => !*negated && members.len() <= FEW_BOUNDS,

@@ -3,10 +3,12 @@
 #![tactic(auto)]
 
 mod emptied;
+mod found;
 mod loading;
 mod opening;
 mod small;
 mod wanted;
 
+pub use found::{Found, load_others, look_up};
 pub use loading::{load_detailed, load_unless_emptied};
 pub use opening::open_segment;

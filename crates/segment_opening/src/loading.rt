@@ -115,8 +115,8 @@ pub fn load_detailed<S: Shelf>(
     load_marked(alloc, shelf, table, detailed.as_slice(), head)
 }
 
-// Loads the dictionary of each column that is marked, and no other.
-fn load_marked<S: Shelf>(
+/// Loads the dictionary of each column that is marked, and no other.
+pub(crate) fn load_marked<S: Shelf>(
     alloc: Global,
     shelf: &mut S,
     table: &Table,

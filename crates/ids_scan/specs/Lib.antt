@@ -1,0 +1,3 @@
+pub mod ByIds
+pub mod Reads
+pub mod Alike
