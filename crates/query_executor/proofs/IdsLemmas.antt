@@ -30,12 +30,10 @@ use Rattle.segment_opening.specs.Calls.{IsOpened}
 use Rattle.segment_opening.specs.Opened.{IsHeadIn, IsSpreadIn}
 use Rattle.segment_scan.specs.Images.{AddsImage, AreDocs, ImagesLeave, ImagesRead, IsBadIn, IsImageOverfull, LogsScan, LogsScanPartly, choices_for}
 use Rattle.segment_scan.proofs.ScanReads.{image_scan, image_scan_partly}
-use Rattle.ids_scan.specs.Alike.{IdsAreAlike, IsAlike, with_own}
-use Rattle.ids_scan.specs.ByIds.{IsByIds}
-use Rattle.ids_scan.specs.Reads.{IsAskedOf}
-use Rattle.ids_scan.proofs.AlikeLemmas.{bad_alike, choices_un}
-use Rattle.ids_scan.proofs.HeadLemmas.{set_head, set_loaded}
-use Rattle.ids_scan.proofs.ReadLemmas.{full_head, full_image, full_loaded, same_names, with_column}
+use Rattle.query_executor.specs.Alike.{IdsAreAlike, IsAlike, with_own}
+use Rattle.query_executor.proofs.IdsAlike.{bad_alike, choices_un}
+use Rattle.query_executor.proofs.IdsHeads.{set_head, set_loaded}
+use Rattle.query_executor.proofs.IdsReads.{full_head, full_image, full_loaded, same_names, with_column}
 use Rattle.outside.specs.Seen as outside
 use Rattle.outside.proofs.ReadLemmas.{on-err}
 use Rattle.table_schema.specs.ValidTable.{IsValidTable}
@@ -45,7 +43,7 @@ use Rattle.star_answer.specs.DocLaws.{DocsAreBounded}
 use Rattle.segment_reads.proofs.LogLemmas.{logs_none}
 use Rattle.query_executor.proofs.EndLemmas.{fault_not, fault_ok, memory_not_bad, memory_not_full, memory_not_read, reads_unread}
 use Rattle.query_executor.proofs.OneReads.{given_up, none_one}
-use Rattle.query_executor.specs.ByIds.{CanAskByIds}
+use Rattle.query_executor.specs.ByIds.{CanAskByIds, IsAskedOf, IsByIds}
 use Rattle.query_executor.specs.Passes.{AddsSegment, IsBadPart}
 use Rattle.query_executor.specs.Steps.{AddsGroups, AddsStored, IsStoredOverfull, selected_in}
 

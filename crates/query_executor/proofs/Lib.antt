@@ -11,4 +11,8 @@ mod StatedLemmas
 pub mod OneReads
 pub mod PlanLemmas
 mod EmptyLemmas
-pub mod IdsLemmas
+mod IdsHeads
+mod IdsReads
+mod IdsAlike
+mod IdsLemmas
+mod IdsTest

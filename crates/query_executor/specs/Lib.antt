@@ -6,3 +6,4 @@ pub mod Stated
 pub mod Passes
 pub mod Replies
 pub mod ByIds
+pub mod Alike

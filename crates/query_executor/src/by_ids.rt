@@ -7,11 +7,11 @@ ghost use Rattle.segment_reads.specs.Looked.{IsDoneIn};
 ghost use Rattle.query_executor.specs.ByIds.{CanAskByIds};
 ghost use Rattle.query_executor.specs.Passes.{AddsSegment, HasRoomFor};
 
+use crate::asked::asked_by_ids;
+use crate::laws::ids_law;
 use crate::scanned::Scanned;
-use data_types::Seq;
 use group_table::{GroupTable, SlotPool};
-use ids_scan::{asked_by_ids, ids_law};
-use outside::Shelf;
+use outside::{Seq, Shelf};
 use segment_head::{EngineFault, Head, Stored};
 use segment_opening::Found;
 use segment_plan::{IndexChoice, ScanPlan, SegmentPlan, head_tells_law};

@@ -1,18 +1,16 @@
 -- What is looked up of a column that a query tests alone.
-use Rattle.std.specs.Prelude.{◌≡◌, ◌≤◌, ◌<◌, ℕ, false, List, [], ◌∷◌, length, Option, slice_get}
+use Rattle.std.specs.Prelude.{◌≡◌, ◌≤◌, ◌<◌, ℕ, false, List, [], ◌∷◌, length, Option}
 use Rattle.outside.specs.Files.{Files}
 use Rattle.values.specs.declared.test.Test.{Test}
 use Rattle.value_ids.specs.Dictionary.{Distinct, most_values}
 use Rattle.value_ids.specs.Ids.{matching}
-use Rattle.table_schema.specs.NeedIds.{is_set}
 use Rattle.table_schema.specs.declared.query.BoundQuery.{BoundQuery}
 use Rattle.table_schema.specs.declared.query.Conjunct.TheVariants.{One}
-use Rattle.table_schema.specs.declared.settings.Settings.{Settings}
 use Rattle.table_schema.specs.declared.table.Table.{Table}
 use Rattle.segment_head.specs.Heads.{OfWhole, Seen}
 use Rattle.segment_head.specs.declared.column_ids.Matched.{Matched}
 use Rattle.segment_head.specs.Lookups.{OfColumn}
-use Rattle.segment_plan.specs.Choices.{is_sorted_on}
+use Rattle.segment_plan.specs.Choices.{IsUnindexed}
 use Rattle.segment_plan.specs.Named.{query_names}
 
 -- the query without its filter
@@ -24,12 +22,6 @@ unfiltered query = record query { conjuncts = [] }
 pub record IsTestedAlone (query : BoundQuery) (column : ℕ) (test : Test) : Type 0 where
   pub only : query.conjuncts ≡ One column test ∷ []
   pub apart : query_names (unfiltered query) column ≡ false
-
--- the column has no index
-pub record IsUnindexed (settings : Settings) (column : ℕ) : Type 0 where
-  pub unsorted : is_sorted_on settings.sorted column ≡ false
-  pub uninverted : is_set (slice_get settings.inverted column) ≡ false
-  pub unranged : is_set (slice_get settings.ranged column) ≡ false
 
 -- a dictionary has so many values, and these are the ids of those that satisfy the test
 abbrev pub IsFoundIn : Test → Matched → Distinct → Type 0

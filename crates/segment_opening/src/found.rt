@@ -1,26 +1,24 @@
 //! A column that a query tests alone is looked up where its dictionary lies.
-ghost use Rattle.std.specs.Prelude.{◌≡◌, ◌≤◌, ◌<◌, ◌∷◌, [], false, true, IfOk, IfSome, OnOk, length, slice_get};
+ghost use Rattle.std.specs.Prelude.{◌≡◌, ◌≤◌, ◌<◌, ◌∷◌, [], false, true, IfOk, IfSome, OnOk, length};
 ghost use Rattle.outside.specs.Seen.{seen};
 ghost use Rattle.values.specs.declared.test.Test as tests;
 ghost use Rattle.value_ids.specs.Dictionary.{most_values};
-ghost use Rattle.table_schema.specs.NeedIds.{is_set};
 ghost use Rattle.table_schema.specs.declared.query.Conjunct.TheVariants.{One};
 ghost use Rattle.segment_head.specs.Calls.{IsColumnOf};
 ghost use Rattle.segment_head.specs.Heads.{OfWhole};
 ghost use Rattle.segment_head.specs.Lookups.{OfColumn};
 ghost use Rattle.segment_plan.specs.Named.{AreNamedLoaded, MarksColumns, query_names};
-ghost use Rattle.segment_plan.specs.Choices as spec;
 ghost use Rattle.segment_opening.specs.Calls.{IsQueryOnHead, LoadsMore, LooksUp};
-ghost use Rattle.segment_opening.specs.Found.{IsFound, IsFoundIn, IsUnindexed, unfiltered};
+ghost use Rattle.segment_opening.specs.Found.{IsFound, IsFoundIn, unfiltered};
 
 use crate::emptied::{is_large, names_few};
 use crate::loading::load_marked;
 use outside::Shelf;
 use segment_file::HeadFault;
 use segment_head::{EngineFault, Head, Matched, NoMemory};
-use segment_plan::{IndexChoice, named_columns};
+use segment_plan::{IndexChoice, is_indexed, named_columns};
 use std::alloc::Global;
-use table_schema::{BoundQuery, Conjunct, Settings, Table};
+use table_schema::{BoundQuery, Conjunct, Table};
 use values::Test;
 
 /// What was found in the dictionary of a column that a query tests alone.
@@ -117,34 +115,5 @@ fn find<S: Shelf>(
         Err(HeadFault::NotASegment(_)) => Ok(None),
         Err(HeadFault::ReadFault) => Err(EngineFault::ReadFault),
         Err(HeadFault::NoMemory) => Err(EngineFault::NoMemory),
-    }
-}
-
-// The column has an index.
-fn is_indexed(settings: &Settings, column: u16) -> bool
-    ensures { result ≡ false → IsUnindexed settings.now column }
-{
-    is_sorted_on(settings.sorted, column)
-        || is_set(settings.inverted.as_slice(), column)
-        || is_set(settings.ranged.as_slice(), column)
-}
-
-// The column is the sorted one.
-fn is_sorted_on(sorted: Option<u16>, column: u16) -> bool
-    ensures { result ≡ spec.is_sorted_on sorted column }
-{
-    match sorted {
-        Some(sorted) => sorted == column,
-        None => false,
-    }
-}
-
-// The mark of the column is set.
-fn is_set(marks: &[bool], column: u16) -> bool
-    ensures { result ≡ is_set (slice_get marks.now column) }
-{
-    match marks.get(column as usize) {
-        Some(mark) => *mark,
-        None => false,
     }
 }

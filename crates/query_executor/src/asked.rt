@@ -2,10 +2,11 @@
 ghost use Rattle.std.specs.Prelude.{◌≡◌, ℕ, IfOk, map, pos};
 ghost use Rattle.values.specs.declared.value.Value.TheVariants as value;
 ghost use Rattle.values.specs.Tests.{holds};
-ghost use Rattle.value_ids.specs.Ids.{IsIdSet, has_id};
-ghost use Rattle.ids_scan.specs.ByIds.{IsByIds};
+ghost use Rattle.value_ids.specs.Ids.{has_id};
+ghost use Rattle.query_executor.specs.ByIds.{IsByIds};
 
-use data_types::Seq;
+use outside::Seq;
+use segment_plan::are_consecutive;
 use std::alloc::Global;
 use table_schema::{BoundQuery, Conjunct};
 use value_ids::IdSet;
@@ -13,7 +14,7 @@ use values::{NoMemory, Test, Value};
 
 /// The query that asks for the groups and aggregates of another, of the rows with one of these ids
 /// in a column.
-pub fn asked_by_ids(
+pub(crate) fn asked_by_ids(
     alloc: Global,
     query: &BoundQuery,
     column: u16,
@@ -21,7 +22,7 @@ pub fn asked_by_ids(
 ) -> Result<BoundQuery, NoMemory>
     ensures { IfOk result (λ asked. IsByIds query.now asked column ids.now) }
 {
-    let test = test_of_ids(alloc, ids.as_slice())?;
+    let test = test_of_ids(alloc, ids)?;
     let mut conjuncts = Seq::with_capacity(alloc, 1)?;
     conjuncts.push(Conjunct::One(column, test))?;
     Ok(BoundQuery {
@@ -40,19 +41,16 @@ pub fn asked_by_ids(
 
 // The test that a number is one of these ids: one from the first to the last, where they follow one
 // another.
-fn test_of_ids(alloc: Global, ids: &[u32]) -> Result<Test, NoMemory>
-    requires { IsIdSet ids.now }
+fn test_of_ids(alloc: Global, ids: &IdSet) -> Result<Test, NoMemory>
     ensures { IfOk result (λ test. (id : ℕ) → holds (value.Whole (pos id)) test
         ≡ has_id ids.now id) }
 {
-    match ids {
-        [first, ..] if ids[ids.len() - 1] - *first == ids.len() as u32 - 1 => {
-            let low = Value::Whole(i64::from(*first));
-            let high = Value::Whole(i64::from(ids[ids.len() - 1]));
-            Ok(Test::Between(low, high, false))
-        }
-        _ => Ok(Test::OneOf(values_of(alloc, ids)?, false)),
+    if are_consecutive(ids) {
+        let low = as_value(*ids.at(0));
+        let high = as_value(*ids.at(ids.len() as usize - 1));
+        return Ok(Test::Between(low, high, false));
     }
+    Ok(Test::OneOf(values_of(alloc, ids.as_slice())?, false))
 }
 
 // The ids as values.
@@ -60,8 +58,15 @@ fn values_of(alloc: Global, ids: &[u32]) -> Result<Seq<Value>, NoMemory>
     ensures { IfOk result (λ values. values ≡ map (λ id. value.Whole (pos id)) ids.now) }
 {
     let mut values = Seq::with_capacity(alloc, ids.len())?;
-    for id in ids {
-        values.push(Value::Whole(i64::from(*id)))?;
+    'ids: for id in ids {
+        values.push(as_value(*id))?;
     }
     Ok(values)
+}
+
+// An id as a value.
+fn as_value(id: u32) -> Value
+    ensures { result ≡ value.Whole (pos id) }
+{
+    Value::Whole(i64::from(id))
 }

@@ -38,9 +38,9 @@ use Rattle.segment_scan.specs.Scans.{column_read, columns_read, table_read, valu
 use Rattle.segment_scan.proofs.ImageLemmas.{columns_few, item_there}
 use Rattle.segment_head.specs.ColumnIds.{ids_below, numbers_below, with_ids}
 use Rattle.segment_opening.specs.Found.{IsTestedAlone, unfiltered}
-use Rattle.ids_scan.specs.ByIds.{IsByIds, IsFoundOf}
-use Rattle.ids_scan.specs.Reads.{IdsReadAlike, IsAskedOf, ReadAlike}
-use Rattle.ids_scan.proofs.HeadLemmas.{other_loaded, other_values, part_self, set_head, set_loaded, set_part, set_values, whole_loaded}
+use Rattle.query_executor.specs.ByIds.{IsAskedOf, IsByIds, IsFoundOf}
+use Rattle.query_executor.specs.Alike.{ReadAlike}
+use Rattle.query_executor.proofs.IdsHeads.{other_loaded, other_values, part_self, set_head, set_loaded, set_part, set_values, whole_loaded}
 
 -- ---- the rows of columns
 
@@ -324,6 +324,3 @@ module _ (read : ImagesRead) (tells_law : HeadTells) (query asked : BoundQuery) 
       subst (λ ms. AgreeAll (query_names (unfiltered query)) (filter (λ row. all_hold row asked.conjuncts) (rows_of (table_read files given ms))) (filter (λ row. all_hold row query.conjuncts) os))
       (sym (same_marks query column test a.alone asked ids a.by table))
       (kept_alike (query_names (unfiltered query)) (λ row. all_hold row asked.conjuncts) (λ row. all_hold row query.conjuncts) (rows_of (table_read files given marks)) os rows_alike)
-
-pub ids_read_alike : ImagesRead → HeadTells → IdsReadAlike
-ids_read_alike read tells query asked table files rows head column test count ids a = read_alike read tells query asked table files rows head column test count ids a

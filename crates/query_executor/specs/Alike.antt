@@ -1,4 +1,4 @@
--- What a scan by the ids of a column gives of the query that tests its values.
+-- What a scan by the ids of a column reads and gives, of the query that tests its values.
 use Rattle.std.specs.Prelude.{◌≡◌, ◌≢◌, ℕ, false, List, [], length, Option, None, Some}
 use Rattle.outside.specs.Files.{Files}
 use Rattle.outside.specs.Reads.{Entry}
@@ -18,12 +18,25 @@ use Rattle.segment_head.specs.Heads.{Seen, with_dictionary}
 use Rattle.segment_file.specs.Image.{dictionary_of}
 use Rattle.segment_plan.specs.declared.plans.ScanPlan.{ScanPlan}
 use Rattle.segment_plan.specs.declared.plans.SegmentPlan.TheVariants.{Scan}
+use Rattle.segment_plan.specs.Choices.{IsUnindexed}
+use Rattle.segment_plan.specs.Named.{names_in, query_names}
 use Rattle.segment_plan.specs.Planned.{plan_over}
 use Rattle.segment_plan.specs.Pruning.{is_pruned}
+use Rattle.segment_scan.specs.Agreement.{AgreeAll}
 use Rattle.segment_scan.specs.Images.{AreDocs, AreRead, IsBadIn, LogsScan, LogsScanPartly, choices_for}
+use Rattle.segment_scan.specs.Scans.{selected_read}
 use Rattle.segment_head.specs.ColumnIds.{with_ids}
-use Rattle.segment_opening.specs.Found.{IsUnindexed}
-use Rattle.ids_scan.specs.Reads.{IsAskedOf}
+use Rattle.segment_opening.specs.Found.{unfiltered}
+use Rattle.query_executor.specs.ByIds.{IsAskedOf}
+
+-- the rows that are read by ids and satisfy the filter agree, in the group columns and those of the
+-- aggregates, with the rows that satisfy the filter of the query
+abbrev pub ReadAlike : BoundQuery → BoundQuery → Table → Files → List (List Value) → Seen → ℕ → ℕ
+    → Type 0
+ReadAlike query asked table files rows head column count =
+    AgreeAll (query_names (unfiltered query))
+    (selected_read asked files (with_ids column count head) (names_in asked table))
+    (selected query (ordered table.settings.sorted rows))
 
 -- the head with the dictionary that the column has in these rows
 abbrev pub with_own : Table → List (List Value) → ℕ → Seen → Seen

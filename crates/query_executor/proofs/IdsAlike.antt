@@ -33,7 +33,7 @@ use Rattle.segment_file.specs.Parts.{columns_of}
 use Rattle.segment_file.specs.declared.part.Part.{Part}
 use Rattle.segment_file.specs.declared.part.Part.TheVariants.{Forward}
 use Rattle.segment_head.specs.Heads.{IsHeadOf, Seen, place_in, with_dictionary}
-use Rattle.segment_plan.specs.Choices.{choice_of, are_consecutive}
+use Rattle.segment_plan.specs.Choices.{IsUnindexed, are_consecutive, choice_of}
 use Rattle.segment_plan.specs.Laws.{HeadTells, PlanIsOver, TellsOf}
 use Rattle.segment_plan.specs.Matched.{AreLoaded, count_in, is_filtered, is_on, matched, passes, values_in}
 use Rattle.segment_plan.specs.Named.{agg_names, conjunct_names, is_in, names_in, query_names}
@@ -54,13 +54,12 @@ use Rattle.segment_scan.specs.Images.{AreDocs, AreRead, ImagesLeave, ImagesRead,
 use Rattle.segment_scan.specs.Scans.{selected_read}
 use Rattle.segment_scan.proofs.AgreementLemmas.{agreeing_same}
 use Rattle.segment_scan.proofs.LeftImage.{whole_docs}
-use Rattle.ids_scan.specs.Alike.{IdsAreAlike, IsAlike, with_own}
+use Rattle.query_executor.specs.Alike.{IdsAreAlike, IsAlike, with_own}
 use Rattle.segment_head.specs.ColumnIds.{with_ids}
-use Rattle.segment_opening.specs.Found.{IsTestedAlone, IsUnindexed, unfiltered}
-use Rattle.ids_scan.specs.ByIds.{IsByIds}
-use Rattle.ids_scan.specs.Reads.{IsAskedOf}
-use Rattle.ids_scan.proofs.ReadLemmas.{full_count, full_head, full_image, full_loaded, full_reads, full_values, given_count, named_too, others_same, own_named, read_alike, same_marks}
-use Rattle.ids_scan.proofs.HeadLemmas.{part_self}
+use Rattle.segment_opening.specs.Found.{IsTestedAlone, unfiltered}
+use Rattle.query_executor.specs.ByIds.{IsAskedOf, IsByIds}
+use Rattle.query_executor.proofs.IdsReads.{full_count, full_head, full_image, full_loaded, full_reads, full_values, given_count, named_too, others_same, own_named, read_alike, same_marks}
+use Rattle.query_executor.proofs.IdsHeads.{part_self}
 
 -- ---- groups
 

@@ -1,3 +1,0 @@
-pub mod HeadLemmas
-pub mod ReadLemmas
-pub mod AlikeLemmas

@@ -1,3 +1,0 @@
-pub mod ByIds
-pub mod Reads
-pub mod Alike
