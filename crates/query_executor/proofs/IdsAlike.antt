@@ -59,7 +59,7 @@ use Rattle.segment_head.specs.ColumnIds.{with_ids}
 use Rattle.segment_opening.specs.Found.{IsTestedAlone, unfiltered}
 use Rattle.query_executor.specs.ByIds.{IsAskedOf, IsByIds}
 use Rattle.query_executor.proofs.IdsReads.{full_count, full_head, full_image, full_loaded, full_reads, full_values, given_count, named_too, others_same, own_named, read_alike, same_marks}
-use Rattle.query_executor.proofs.IdsHeads.{part_self}
+use Rattle.segment_opening.proofs.EmptyLemmas.{part_self}
 
 -- ---- groups
 

@@ -1,14 +1,11 @@
 -- A head with another dictionary of a column.
 use Rattle.std.proofs.Common.{◌≡◌, ◌≢◌, ◌∙◌, ◌<◌, ◌+◌, ◌==◌, ℕ, zero, suc, Bool, true, false, Option, Some, None, List, [], ◌∷◌, length, map, slice_get, refl, sym, ap, subst, arith}
-use Rattle.std.specs.List.{AllZip, range_with_len}
-use Rattle.std.proofs.lemmas.List.FromFn.{length-range_with_len}
-use Rattle.std.proofs.lemmas.List.{length-map, length-set}
+use Rattle.std.specs.List.{AllZip}
+use Rattle.std.proofs.lemmas.List.{length-set}
 use Rattle.std.specs.Prelude.{set}
 use Rattle.value_ids.specs.Dictionary.{Distinct}
 use Rattle.table_schema.specs.declared.table.Table.{Table}
-use Rattle.segment_file.specs.Parts.{columns_of}
-use Rattle.segment_file.specs.Rules.{AreSpelled, heads_in}
-use Rattle.segment_head.specs.Heads.{IsHead, IsHeadOf, IsLoaded, IsPartOf, IsSlotOf, Seen, with_dictionary}
+use Rattle.segment_head.specs.Heads.{IsHeadOf, IsLoaded, IsPartOf, IsSlotOf, Seen, with_dictionary}
 use Rattle.segment_plan.specs.Matched.{values_in, values_of}
 
 slot_set : {A : Type 0} (ws xs : List (Option A)) (i : ℕ) (d : A) → AllZip IsSlotOf ws xs → slice_get ws i ≡ Some (Some d) → AllZip IsSlotOf ws (set xs i (Some d))
@@ -71,27 +68,3 @@ other_values head column d c apart = ap values_of (slice_get-set_other head.dict
 
 pub other_loaded : (head : Seen) (column : ℕ) (d : Distinct) (c : ℕ) → c ≢ column → IsLoaded head c → IsLoaded (with_dictionary column d head) c
 other_loaded head column d c apart loaded = (loaded.0, slice_get-set_other head.dictionaries column c (Some d) apart ∙ loaded.1)
-
--- ---- a whole head
-
-slots_self : {A : Type 0} (xs : List (Option A)) → AllZip IsSlotOf xs xs
-slots_self [] = tt
-slots_self (None ∷ xs) = (tt, slots_self xs)
-slots_self (Some x ∷ xs) = (refl, slots_self xs)
-
--- it is a part of itself
-pub part_self : (whole : Seen) → IsPartOf whole whole
-part_self whole = record { rows_same = refl; sections_same = refl; bounds_same = refl; slots = slots_self whole.dictionaries; tree_slots = slots_self whole.trees }
-
-spelled_there : (table : Table) (rows : ℕ) (heads : List (List ℕ)) (columns : List ℕ) (ds : List Distinct) (k : ℕ) → AreSpelled table rows heads columns ds → k < length columns → (d : Distinct) × (slice_get (map Some ds) k ≡ Some (Some d))
-spelled_there table rows heads [] ds k all lt = absurd (omega (arith, lt))
-spelled_there table rows heads (c ∷ cs) [] k all lt = absurd all
-spelled_there table rows heads (c ∷ cs) (d ∷ ds) zero all lt = (d, refl)
-spelled_there table rows heads (c ∷ cs) (d ∷ ds) (suc k) all lt = spelled_there table rows heads cs ds k all.1 (omega (arith, lt))
-
--- it has the dictionary of each column
-pub whole_loaded : (table : Table) (name file bytes : List ℕ) (whole : Seen) → IsHead table name file bytes whole → (column : ℕ) → column < length table.schema.fields → IsLoaded whole column
-whole_loaded table name file bytes whole full column lt =
-    let (d, at) = spelled_there table full.front.rows (heads_in table name full.front bytes) (columns_of table) full.dictionaries column full.keeps.heads.spelled
-    (subst (λ n. column < n) (sym (length-range_with_len 0 (length table.schema.fields))) lt) in
-    (d, ap (λ l. slice_get l column) full.dictionaries_are ∙ at)

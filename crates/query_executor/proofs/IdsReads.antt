@@ -40,7 +40,8 @@ use Rattle.segment_head.specs.ColumnIds.{ids_below, numbers_below, with_ids}
 use Rattle.segment_opening.specs.Found.{IsTestedAlone, unfiltered}
 use Rattle.query_executor.specs.ByIds.{IsAskedOf, IsByIds, IsFoundOf}
 use Rattle.query_executor.specs.Alike.{ReadAlike}
-use Rattle.query_executor.proofs.IdsHeads.{other_loaded, other_values, part_self, set_head, set_loaded, set_part, set_values, whole_loaded}
+use Rattle.query_executor.proofs.IdsFound.{image_has}
+use Rattle.query_executor.proofs.IdsHeads.{other_loaded, other_values, set_head, set_loaded, set_part, set_values}
 
 -- ---- the rows of columns
 
@@ -155,11 +156,7 @@ module _ (read : ImagesRead) (tells_law : HeadTells) (query asked : BoundQuery) 
   given = with_ids column count head
 
   whole_has : slice_get a.image.whole.dictionaries column ≡ Some (Some d)
-  whole_has =
-      let i = a.image in
-      let (own, at) = whole_loaded table i.name i.file _ i.whole i.is_head column a.within in
-      let tells : TellsOf table os i.whole = tells_law table i.name i.file rows i.whole i.whole a.valid i.named i.can i.is_head (part_self i.whole) in
-      at ∙ ap (λ (x : Distinct). Some (Some x)) (tells.dictionaries_are column own at)
+  whole_has = image_has table tells_law a.valid files rows head a.image column a.within
 
   pub full_head : IsHeadOf table full
   full_head = set_head table head column d a.of_table

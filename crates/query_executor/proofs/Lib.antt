@@ -11,6 +11,8 @@ mod StatedLemmas
 pub mod OneReads
 pub mod PlanLemmas
 mod EmptyLemmas
+mod AfterHead
+mod IdsFound
 mod IdsHeads
 mod IdsReads
 mod IdsAlike

@@ -16,14 +16,13 @@ use Rattle.eligibility.specs.Rule.{picked}
 use Rattle.segment_file.specs.Image.{dictionary_of}
 use Rattle.segment_file.specs.Ordered.{ordered}
 use Rattle.segment_head.specs.Heads.{IsHeadOf, Seen}
-use Rattle.segment_head.specs.declared.column_ids.Matched.{Matched}
 use Rattle.segment_head.specs.Stored.{HasImage, IsOfImage}
 use Rattle.segment_head.specs.declared.stored.Stored.{Stored}
 use Rattle.segment_plan.specs.Choices.{IsUnindexed}
 use Rattle.segment_plan.specs.Named.{AreNamedLoaded}
 use Rattle.segment_plan.specs.Pruning.{is_pruned}
 use Rattle.segment_opening.specs.Calls.{IsOpened}
-use Rattle.segment_opening.specs.Found.{IsFound, IsTestedAlone, unfiltered}
+use Rattle.segment_opening.specs.Found.{IsTestedAlone, unfiltered}
 
 -- the query asks for the groups and aggregates of another, of the rows with one of these ids in the
 -- column
@@ -71,14 +70,3 @@ pub record CanAskByIds (query : BoundQuery) (table : Table) (held : Option Files
   pub some : ids ≢ []
   pub found : IfSome held (λ files. (rows : List (List Value)) → HasImage table files segment rows
       → IsFoundOf table (ordered table.settings.sorted rows) column test count ids)
-
--- what was found in the column that a query tests alone, in the dictionary of an open segment that
--- its bounds do not exclude, for a query that no tree answers
-pub record IsFoundFor (query : BoundQuery) (table : Table) (held : Option Files)
-    (segment : Stored) (head : Seen) (column : ℕ) (matched : Matched) : Type 0 where
-  pub valid : IsValidTable table
-  pub query_valid : IsValidQuery table query
-  pub opened : IsOpened table held segment head
-  pub kept : is_pruned query head ≡ false
-  pub unpicked : picked query table.settings.trees ≡ None
-  pub found : IsFound query table held head column matched

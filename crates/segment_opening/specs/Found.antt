@@ -1,5 +1,5 @@
 -- What is looked up of a column that a query tests alone.
-use Rattle.std.specs.Prelude.{◌≡◌, ◌≤◌, ◌<◌, ℕ, false, List, [], ◌∷◌, length, Option}
+use Rattle.std.specs.Prelude.{◌≡◌, ◌≢◌, ◌≤◌, ◌<◌, ℕ, Bool, false, List, [], ◌∷◌, length, Option}
 use Rattle.outside.specs.Files.{Files}
 use Rattle.values.specs.declared.test.Test.{Test}
 use Rattle.value_ids.specs.Dictionary.{Distinct, most_values}
@@ -11,7 +11,7 @@ use Rattle.segment_head.specs.Heads.{OfWhole, Seen}
 use Rattle.segment_head.specs.declared.column_ids.Matched.{Matched}
 use Rattle.segment_head.specs.Lookups.{OfColumn}
 use Rattle.segment_plan.specs.Choices.{IsUnindexed}
-use Rattle.segment_plan.specs.Named.{query_names}
+use Rattle.segment_plan.specs.Named.{AreNamedLoaded, query_names}
 
 -- the query without its filter
 abbrev pub unfiltered : BoundQuery → BoundQuery
@@ -37,3 +37,12 @@ pub record IsFound (query : BoundQuery) (table : Table) (held : Option Files) (h
   pub unindexed : IsUnindexed table.settings column
   pub few : matched.count ≤ most_values
   pub whole : OfWhole table held head (OfColumn column (IsFoundIn test matched))
+
+-- that was found in a column with such a value, where no star-tree answers, and all else that the
+-- query names was loaded
+pub record IsFoundAlone (query : BoundQuery) (table : Table) (held : Option Files) (by_tree : Bool)
+    (head grown : Seen) (column : ℕ) (matched : Matched) : Type 0 where
+  pub untreed : by_tree ≡ false
+  pub found : IsFound query table held head column matched
+  pub some : matched.ids ≢ []
+  pub loaded : AreNamedLoaded (unfiltered query) grown

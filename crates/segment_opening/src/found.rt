@@ -30,7 +30,7 @@ pub struct Found {
 
 /// Looks up the column of a query that tests one column, which has no index and a large dictionary,
 /// and asks no more of it. Bounds are cut where the dictionary lies.
-pub fn look_up<S: Shelf>(
+pub(crate) fn look_up<S: Shelf>(
     alloc: Global,
     shelf: &mut S,
     table: &Table,
@@ -62,7 +62,7 @@ pub fn look_up<S: Shelf>(
 
 /// Loads the dictionaries of the group columns and of those that aggregates name, where a query has
 /// one conjunct, which names one column.
-pub fn load_others<S: Shelf>(
+pub(crate) fn load_others<S: Shelf>(
     alloc: Global,
     shelf: &mut S,
     table: &Table,

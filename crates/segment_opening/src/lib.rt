@@ -4,11 +4,13 @@
 
 mod emptied;
 mod found;
+mod loaded;
 mod loading;
 mod opening;
 mod small;
 mod wanted;
 
-pub use found::{Found, load_others, look_up};
-pub use loading::{load_detailed, load_unless_emptied};
+pub use found::Found;
+pub use loaded::{Loaded, load_or_look_up};
+pub use loading::load_detailed;
 pub use opening::open_segment;

@@ -18,7 +18,7 @@ use table_schema::{BoundQuery, Table};
 
 /// Loads the dictionaries that the answer of a segment wants, unless a conjunct is known to match
 /// no value of its column: then no large one is loaded. Answers whether they were loaded.
-pub fn load_unless_emptied<S: Shelf>(
+pub(crate) fn load_unless_emptied<S: Shelf>(
     alloc: Global,
     shelf: &mut S,
     table: &Table,
