@@ -61,7 +61,14 @@ pub(crate) fn add_by_ids<S: Shelf>(
     let by_ids = asked_by_ids(alloc, asked.query, found.column, &found.matched.ids)?;
     let plan = unindexed(alloc)?;
     match scan_segment(
-        alloc, shelf, head, asked.table, &by_ids, &plan, groups, pool,
+        alloc,
+        shelf,
+        head,
+        asked.table,
+        &by_ids,
+        &plan,
+        groups,
+        pool,
     ) {
         Ok(docs) => Ok(Scanned {
             plan: SegmentPlan::Scan(plan),

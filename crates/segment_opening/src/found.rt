@@ -29,22 +29,24 @@ pub struct Found {
 }
 
 /// Looks up the column of a query that tests one column, which has no index and a large dictionary,
-/// and asks no more of it. Bounds are cut where the dictionary lies.
+/// and asks no more of it; unless a star-tree answers. Bounds are cut where the dictionary lies.
 pub(crate) fn look_up<S: Shelf>(
     alloc: Global,
     shelf: &mut S,
     table: &Table,
     query: &BoundQuery,
+    by_tree: bool,
     head: &Head,
 ) -> Result<Option<Found>, EngineFault>
     requires { IsQueryOnHead query.now table.now head.now }
+    ensures untreed { IfOk result (λ found. IfSome found (λ f. by_tree ≡ false)) }
     ensures found { IfOk result (λ found. IfSome found (λ f.
         IsFound query.now table.now (S.held shelf.old) head.now f.column f.matched)) }
     ensures looks { LooksUp table.now result head.now
         (seen S.Shelf shelf.old) (seen S.Shelf shelf.new) }
 {
     let conjuncts = query.conjuncts.as_slice();
-    if conjuncts.len() != 1 {
+    if by_tree || conjuncts.len() != 1 {
         return Ok(None);
     }
     let Conjunct::One(column, test) = &conjuncts[0] else {
@@ -58,6 +60,33 @@ pub(crate) fn look_up<S: Shelf>(
         return Ok(None);
     }
     find(alloc, shelf, table, head, *column, test)
+}
+
+/// How many values a column has, and the ids of those that satisfy a test, unless its dictionary is
+/// bad.
+pub(crate) fn find<S: Shelf>(
+    alloc: Global,
+    shelf: &mut S,
+    table: &Table,
+    head: &Head,
+    column: u16,
+    test: &Test,
+) -> Result<Option<Found>, EngineFault>
+    requires { IsColumnOf table.now head.now column }
+    ensures column { IfOk result (λ found. IfSome found (λ f. f.column ≡ column)) }
+    ensures found { IfOk result (λ found. IfSome found (λ f.
+        OfWhole table.now (S.held shelf.old) head.now
+        (OfColumn column (IsFoundIn test.now f.matched)))) }
+    ensures few { IfOk result (λ found. IfSome found (λ f. f.matched.count ≤ most_values)) }
+    ensures looks { LooksUp table.now result head.now
+        (seen S.Shelf shelf.old) (seen S.Shelf shelf.new) }
+{
+    match head.matched(alloc, shelf, table, column, test) {
+        Ok(matched) => Ok(Some(Found { column, matched })),
+        Err(HeadFault::NotASegment(_)) => Ok(None),
+        Err(HeadFault::ReadFault) => Err(EngineFault::ReadFault),
+        Err(HeadFault::NoMemory) => Err(EngineFault::NoMemory),
+    }
 }
 
 /// Loads the dictionaries of the group columns and of those that aggregates name, where a query has
@@ -89,31 +118,4 @@ fn other_columns(alloc: Global, query: &BoundQuery, count: usize) -> Result<Vec<
         (query_names (unfiltered query.now)) }
 {
     named_columns(alloc, query, &[IndexChoice::Sorted], count)
-}
-
-// How many values a column has, and the ids of those that satisfy a test, unless its dictionary is
-// bad.
-fn find<S: Shelf>(
-    alloc: Global,
-    shelf: &mut S,
-    table: &Table,
-    head: &Head,
-    column: u16,
-    test: &Test,
-) -> Result<Option<Found>, EngineFault>
-    requires { IsColumnOf table.now head.now column }
-    ensures column { IfOk result (λ found. IfSome found (λ f. f.column ≡ column)) }
-    ensures found { IfOk result (λ found. IfSome found (λ f.
-        OfWhole table.now (S.held shelf.old) head.now
-        (OfColumn column (IsFoundIn test.now f.matched)))) }
-    ensures few { IfOk result (λ found. IfSome found (λ f. f.matched.count ≤ most_values)) }
-    ensures looks { LooksUp table.now result head.now
-        (seen S.Shelf shelf.old) (seen S.Shelf shelf.new) }
-{
-    match head.matched(alloc, shelf, table, column, test) {
-        Ok(matched) => Ok(Some(Found { column, matched })),
-        Err(HeadFault::NotASegment(_)) => Ok(None),
-        Err(HeadFault::ReadFault) => Err(EngineFault::ReadFault),
-        Err(HeadFault::NoMemory) => Err(EngineFault::NoMemory),
-    }
 }

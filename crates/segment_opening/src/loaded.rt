@@ -47,37 +47,13 @@ pub fn load_or_look_up<S: Shelf>(
         IsFoundAlone query.now table.now (S.held shelf.old) by_tree head.old head.new
         found.column found.matched) }
 {
-    if by_tree {
-        return load_all(alloc, shelf, table, query, by_tree, head);
-    }
-    match look_up(alloc, shelf, table, query, head) {
+    match look_up(alloc, shelf, table, query, by_tree, head) {
         Ok(Some(found)) => load_but(alloc, shelf, table, query, found, head),
-        Ok(None) => load_all(alloc, shelf, table, query, by_tree, head),
-        Err(fault) => Err(fault),
-    }
-}
-
-// Loads all that the answer wants, unless a conjunct is known to match no value of its column.
-fn load_all<S: Shelf>(
-    alloc: Global,
-    shelf: &mut S,
-    table: &Table,
-    query: &BoundQuery,
-    by_tree: bool,
-    head: &mut Head,
-) -> Result<Loaded, EngineFault>
-    requires { IsQueryOnHead query.now table.now head.old }
-    ensures loads { LoadsMore table.now result head.old head.new
-        (seen S.Shelf shelf.old) (seen S.Shelf shelf.new) }
-    ensures emptied { IfOk result (λ loaded. loaded ≡ kind.Emptied →
-        IsEmptied query.now table.now (S.held shelf.old) head.old) }
-    ensures wanted { IfOk result (λ loaded. loaded ≡ kind.Wanted →
-        HasWanted query.now by_tree head.new) }
-    ensures whole { IfOk result (λ loaded. (found : spec.Found) → loaded ≢ kind.But found) }
-{
-    match load_unless_emptied(alloc, shelf, table, query, by_tree, head) {
-        Ok(true) => Ok(Loaded::Wanted),
-        Ok(false) => Ok(Loaded::Emptied),
+        Ok(None) => match load_unless_emptied(alloc, shelf, table, query, by_tree, head) {
+            Ok(true) => Ok(Loaded::Wanted),
+            Ok(false) => Ok(Loaded::Emptied),
+            Err(fault) => Err(fault),
+        },
         Err(fault) => Err(fault),
     }
 }

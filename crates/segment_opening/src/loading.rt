@@ -16,6 +16,28 @@ use segment_head::{EngineFault, Head, engine_fault};
 use std::alloc::Global;
 use table_schema::{BoundQuery, Table};
 
+/// Loads the dictionaries that the plan of a segment and what is said of it want, and no other: of
+/// the columns that a conjunct names alone, and where this star-tree is picked those that the bound
+/// on its documents is made of.
+pub fn load_detailed<S: Shelf>(
+    alloc: Global,
+    shelf: &mut S,
+    table: &Table,
+    query: &BoundQuery,
+    tree: Option<u8>,
+    head: &mut Head,
+) -> Result<(), EngineFault>
+    requires asked { IsQueryOnHead query.now table.now head.old }
+    requires tree { IfSome tree (λ n. n < length table.now.settings.trees) }
+    ensures loads { LoadsMore table.now result head.old head.new
+        (seen S.Shelf shelf.old) (seen S.Shelf shelf.new) }
+    ensures filtered { OnOk result (AreLoaded query.now.conjuncts head.new) }
+    ensures factors { OnOk result (AreFactorsLoaded query.now table.now tree head.new) }
+{
+    let detailed = detailed_columns(alloc, query, table, tree, table.schema.fields.len())?;
+    load_marked(alloc, shelf, table, detailed.as_slice(), head)
+}
+
 /// Loads the dictionaries that the answer of a segment wants, unless a conjunct is known to match
 /// no value of its column: then no large one is loaded. Answers whether they were loaded.
 pub(crate) fn load_unless_emptied<S: Shelf>(
@@ -91,28 +113,6 @@ fn load_wanted<S: Shelf>(
 {
     let wanted = wanted_columns(alloc, query, by_tree, table.schema.fields.len())?;
     load_marked(alloc, shelf, table, wanted.as_slice(), head)
-}
-
-/// Loads the dictionaries that the plan of a segment and what is said of it want, and no other: of
-/// the columns that a conjunct names alone, and where this star-tree is picked those that the bound
-/// on its documents is made of.
-pub fn load_detailed<S: Shelf>(
-    alloc: Global,
-    shelf: &mut S,
-    table: &Table,
-    query: &BoundQuery,
-    tree: Option<u8>,
-    head: &mut Head,
-) -> Result<(), EngineFault>
-    requires asked { IsQueryOnHead query.now table.now head.old }
-    requires tree { IfSome tree (λ n. n < length table.now.settings.trees) }
-    ensures loads { LoadsMore table.now result head.old head.new
-        (seen S.Shelf shelf.old) (seen S.Shelf shelf.new) }
-    ensures filtered { OnOk result (AreLoaded query.now.conjuncts head.new) }
-    ensures factors { OnOk result (AreFactorsLoaded query.now table.now tree head.new) }
-{
-    let detailed = detailed_columns(alloc, query, table, tree, table.schema.fields.len())?;
-    load_marked(alloc, shelf, table, detailed.as_slice(), head)
 }
 
 /// Loads the dictionary of each column that is marked, and no other.

@@ -11,6 +11,26 @@ use std::alloc::Global;
 use table_schema::{Conjunct, Settings};
 use value_ids::IdSet;
 
+/// Whether the column has an index.
+pub fn is_indexed(settings: &Settings, column: u16) -> bool
+    ensures { result ≡ false → spec.IsUnindexed settings.now column }
+{
+    is_sorted_on(settings.sorted, column)
+        || is_set(settings.inverted.as_slice(), column)
+        || is_set(settings.ranged.as_slice(), column)
+}
+
+/// There are ids, and no id between them is left out. They ascend, so the ends tell.
+pub fn are_consecutive(ids: &IdSet) -> bool
+    ensures { result ≡ spec.are_consecutive ids.now }
+{
+    let ids = ids.as_slice();
+    match ids {
+        [] => false,
+        [first, ..] => ids[ids.len() - 1] - *first == ids.len() as u32 - 1,
+    }
+}
+
 /// A choice for each conjunct.
 pub(crate) fn choices(
     alloc: Global,
@@ -59,15 +79,6 @@ fn choice(
     }
 }
 
-/// Whether the column has an index.
-pub fn is_indexed(settings: &Settings, column: u16) -> bool
-    ensures { result ≡ false → spec.IsUnindexed settings.now column }
-{
-    is_sorted_on(settings.sorted, column)
-        || is_set(settings.inverted.as_slice(), column)
-        || is_set(settings.ranged.as_slice(), column)
-}
-
 // The column is the sorted one.
 fn is_sorted_on(sorted: Option<u16>, column: u16) -> bool
     ensures { result ≡ spec.is_sorted_on sorted column }
@@ -85,16 +96,5 @@ fn is_set(marks: &[bool], column: u16) -> bool
     match marks.get(column as usize) {
         Some(mark) => *mark,
         None => false,
-    }
-}
-
-/// There are ids, and no id between them is left out. They ascend, so the ends tell.
-pub fn are_consecutive(ids: &IdSet) -> bool
-    ensures { result ≡ spec.are_consecutive ids.now }
-{
-    let ids = ids.as_slice();
-    match ids {
-        [] => false,
-        [first, ..] => ids[ids.len() - 1] - *first == ids.len() as u32 - 1,
     }
 }

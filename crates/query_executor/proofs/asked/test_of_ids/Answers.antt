@@ -9,9 +9,9 @@ pub returns-then-are_consecutive : goal.returns-then-are_consecutive
 returns-then-are_consecutive c id =
     let ids = c.args.ids.now in
     let last = c.at-then-are_consecutive.result.now in
-    (λ i. holds (Whole (pos id)) (Between (c.as_value.ensures i) (c.as_value-then-are_consecutive.ensures i) false))
+    (λ i. holds (Whole (pos id)) (Between (c.as_value-low.ensures i) (c.as_value-high.ensures i) false))
     ∙ between_is ids c.at.result.now last id (sym c.are_consecutive.ensures ∙ c.if-are_consecutive.true) c.at.ensures
-        (subst (λ n. slice_get ids (n - 1) ≡ Some last) c.len.ensures c.at-then-are_consecutive.ensures)
+    (subst (λ n. slice_get ids (n - 1) ≡ Some last) c.len.ensures c.at-then-are_consecutive.ensures)
 
 pub returns : goal.returns
 returns c id = one_of_is c.args.ids.now c.in_ok-values_of.field-0 id (c.in_ok-values_of.ensures ∙ ap (map (λ n. Whole (pos n))) c.as_slice.ensures.same)

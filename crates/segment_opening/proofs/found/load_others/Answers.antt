@@ -15,6 +15,6 @@ returns-clause-others g c =
     let marks = c.as_slice.result.now in
     ok_so c.load_marked.result (AreMarkedLoaded table marks head) (AreNamedLoaded (unfiltered query) head)
     (λ loaded column names.
-        let lt = named_within table query column c.requires.asked.query (unfiltered_names query column names) in
-        loaded column lt (ap (λ l. get_or l column false) c.as_slice.ensures.value ∙ c.in_ok-others.ensures.each column (omega (arith, lt, c.len.ensures)) ∙ names))
+    let lt = named_within table query column c.requires.asked.query (unfiltered_names query column names) in
+    loaded column lt (ap (λ l. get_or l column false) c.as_slice.ensures.value ∙ c.in_ok-others.ensures.each column (omega (arith, lt, c.len.ensures)) ∙ names))
     c.load_marked.ensures.loaded
