@@ -210,8 +210,8 @@ returns-in-Wanted g c =
           (λ done is. is segment later.image) c.add_planned.ensures.done);
     }
 
-pub returns-in-But : goal.returns-in-But
-returns-in-But g c =
+pub returns : goal.returns
+returns g c =
     let a : Seen = seen g.S.Shelf c.args.shelf.now in
     let b : Seen = seen g.S.Shelf c.open_segment.new.shelf in
     let d : Seen = seen g.S.Shelf c.load_or_look_up.new.shelf in
