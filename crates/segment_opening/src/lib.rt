@@ -11,6 +11,6 @@ mod small;
 mod wanted;
 
 pub use found::Found;
-pub use loaded::{Loaded, load_or_look_up};
-pub use loading::load_detailed;
+pub use loaded::Loaded;
+pub use loading::{load_detailed, load_or_look_up};
 pub use opening::open_segment;

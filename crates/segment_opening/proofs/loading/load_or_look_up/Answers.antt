@@ -6,7 +6,7 @@ use Rattle.segment_opening.specs.declared.found.Found.{Found}
 use Rattle.segment_opening.specs.declared.loaded.Loaded.TheVariants.{But}
 use Rattle.segment_opening.proofs.FoundLemmas.{loads_looked}
 use Rattle.segment_opening.proofs.LoadLemmas.{loaded_by, loaded_then, loads_all, loads_err, loads_on, looked_by}
-use Rattle.segment_opening.proofs.loaded.load_or_look_up.Goals as goal
+use Rattle.segment_opening.proofs.loading.load_or_look_up.Goals as goal
 
 pub returns-in-Ok-Some-clause-loads : goal.returns-in-Ok-Some-clause-loads
 returns-in-Ok-Some-clause-loads g c =

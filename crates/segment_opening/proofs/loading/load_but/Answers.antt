@@ -3,7 +3,7 @@ use Rattle.outside.specs.Seen.{Seen, seen}
 use Rattle.segment_opening.proofs.EmptyLemmas.{none_of}
 use Rattle.segment_opening.proofs.FoundLemmas.{found_none}
 use Rattle.segment_opening.proofs.LoadLemmas.{loads_err}
-use Rattle.segment_opening.proofs.loaded.load_but.Goals as goal
+use Rattle.segment_opening.proofs.loading.load_but.Goals as goal
 
 pub returns-then-is_empty-clause-emptied : goal.returns-then-is_empty-clause-emptied
 returns-then-is_empty-clause-emptied g c = λ is.
