@@ -13,15 +13,15 @@ use outside::Shelf;
 use segment_head::{EngineFault, Stored};
 use segment_opening::{load_unless_emptied, open_segment};
 use segment_plan::{SegmentPlan, empty_law, head_tells_law, plan_over_law, prune, pruned_law};
+use segment_scan::IdRooms;
 use star_answer::docs_bound_law;
-use std::alloc::Global;
 use table_schema::{BoundQuery, Table};
 
 /// Adds the rows of a segment that satisfy the filter of a query to its groups, by a star-tree
 /// where one serves the query. Of a segment that its bounds exclude no more than the front and the
 /// bounds is read. Where no value of a large dictionary satisfies a conjunct, none is loaded.
 pub(crate) fn add_segment<S: Shelf>(
-    alloc: Global,
+    rooms: &mut IdRooms,
     shelf: &mut S,
     table: &Table,
     segment: &Stored,
@@ -40,6 +40,7 @@ pub(crate) fn add_segment<S: Shelf>(
     ensures stays { StaysIn groups.old pool.old groups.new pool.new }
 {
     docs_bound_law();
+    let alloc = rooms.alloc();
     let mut head = match open_segment(alloc, shelf, table, segment) {
         Ok(head) => head,
         Err(fault) => return Err(fault),
@@ -59,5 +60,5 @@ pub(crate) fn add_segment<S: Shelf>(
     if !loaded {
         return Ok(nothing(SegmentPlan::Empty));
     }
-    add_planned(alloc, shelf, table, &head, query, groups, pool)
+    add_planned(rooms, shelf, table, &head, query, groups, pool)
 }
