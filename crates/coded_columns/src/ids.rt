@@ -151,28 +151,39 @@ impl IdRoom {
 fn narrow_room(alloc: Global, other: Option<Ids>, rows: usize) -> Result<NarrowIds, NoMemory>
     ensures { IfOk result (λ ids. ids ≡ []) }
 {
-    if let Some(Ids {
-        room: IdRoom::Narrow(mut ids),
-    }) = other
-        && rows <= ids.size()
-    {
-        ids.clear();
-        return Ok(ids);
+    let Some(Ids { room }) = other else {
+        return NarrowIds::with_room(alloc, rows);
+    };
+    match room {
+        IdRoom::Narrow(ids) => emptied(alloc, ids, rows),
+        IdRoom::Wide(_ids) => NarrowIds::with_room(alloc, rows),
     }
-    NarrowIds::with_room(alloc, rows)
+}
+
+// The room of other ids, or new room where there is less than is wanted.
+fn emptied(alloc: Global, mut ids: NarrowIds, rows: usize) -> Result<NarrowIds, NoMemory>
+    ensures { IfOk result (λ own. own ≡ []) }
+{
+    if ids.size() < rows {
+        drop(ids);
+        return NarrowIds::with_room(alloc, rows);
+    }
+    ids.clear();
+    Ok(ids)
 }
 
 // Room for so many ids of four bytes: that of other ids, where it is such.
 fn wide_room(alloc: Global, other: Option<Ids>, rows: usize) -> Result<Vec<u32>, NoMemory>
     ensures { IfOk result (λ ids. ids.items ≡ []) }
 {
-    if let Some(Ids {
-        room: IdRoom::Wide(mut ids),
-    }) = other
-        && rows <= ids.capacity()
-    {
-        ids.clear();
-        return Ok(ids);
+    let Some(Ids { room }) = other else {
+        return Vec::with_capacity(alloc, rows);
+    };
+    match room {
+        IdRoom::Narrow(_ids) => Vec::with_capacity(alloc, rows),
+        IdRoom::Wide(mut ids) => {
+            ids.clear();
+            Ok(ids)
+        }
     }
-    Vec::with_capacity(alloc, rows)
 }

@@ -102,7 +102,7 @@ fn put_column(placed: PlacedRows<'_, '_>, group: u16, keys: &mut [u32])
 // Puts zeros.
 fn put_zeros(keys: &mut [u32])
     ensures same { length keys.new ≡ length keys.old }
-    ensures each { (k : ℕ) → get_or keys.new k 0 ≡ 0 }
+    ensures each { (k : ℕ) → k < length keys.new → get_or keys.new k 0 ≡ 0 }
 {
     for k in 0..keys.len() {
         keys[k] = 0;
@@ -126,7 +126,9 @@ fn put_ids(keys: &mut [u32], ids: &Ids, places: &[u32])
 // Puts the ids of rows that lie one after the other.
 fn put_slices(keys: &mut [u32], ids: IdSlices<'_>)
     requires { length keys.old ≡ length (seen_ids ids) }
-    ensures { keys.new ≡ seen_ids ids.entry }
+    ensures same { length keys.new ≡ length keys.old }
+    ensures each { (k : ℕ) → k < length keys.new
+        → get_or keys.new k 0 ≡ get_or (seen_ids ids.entry) k 0 }
 {
     match ids {
         IdSlices::Narrow(ids) => put_narrow(keys, ids),
@@ -137,7 +139,8 @@ fn put_slices(keys: &mut [u32], ids: IdSlices<'_>)
 // The same where an id takes two bytes.
 fn put_narrow(keys: &mut [u32], ids: &[u16])
     requires { length keys.old ≡ length ids.now }
-    ensures { keys.new ≡ ids.now }
+    ensures same { length keys.new ≡ length keys.old }
+    ensures each { (k : ℕ) → k < length keys.new → get_or keys.new k 0 ≡ get_or ids.now k 0 }
 {
     for k in 0..keys.len() {
         keys[k] = u32::from(ids[k]);
