@@ -7,7 +7,7 @@ ghost use Rattle.bit_column.specs.Sections.{section, AppendsRange, Readable};
 ghost use Rattle.bit_column.specs.declared.fault.ColumnFault.TheVariants.{BadId, ReadFault};
 
 use crate::file_part::FilePart;
-use crate::narrowing::append_narrow_ids;
+use crate::narrow_ids::NarrowIds;
 use crate::part::read_few;
 use crate::range_bytes::read_bytes;
 use crate::reading::{append_ids, id_of};
@@ -160,11 +160,11 @@ pub fn append_narrow<S: Shelf>(
     place: &Place,
     range: IdRange,
     buffer: &mut Vec<u8>,
-    ids: &mut Vec<u16>,
+    ids: &mut NarrowIds,
 ) -> Result<(), ColumnFault>
     requires { range.width.bits ≤ 16 }
     ensures ids { OnOk result (AppendsRange (S.held shelf.old) place.now range.width.bits
-        range.count range.from range.to ids.old.items ids.new.items) }
+        range.count range.from range.to ids.old ids.new) }
     ensures reads { ReadsRange result place.now range.width.bits range.count range.from range.to
         (seen S.Shelf shelf.old) (seen S.Shelf shelf.new) }
 {
@@ -174,14 +174,7 @@ pub fn append_narrow<S: Shelf>(
     let bit = first_bit(range);
     let number = (range.to - range.from) as usize;
     match read_bytes(alloc, shelf, place, range, buffer) {
-        Ok(()) => append_narrow_ids(
-            buffer.as_slice(),
-            bit,
-            range.width,
-            range.count,
-            number,
-            ids,
-        ),
+        Ok(()) => ids.append(buffer.as_slice(), bit, range.width, range.count, number),
         Err(fault) => Err(fault),
     }
 }
