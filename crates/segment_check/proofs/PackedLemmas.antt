@@ -1,5 +1,5 @@
 -- Ids that are read as they are packed.
-use Rattle.std.proofs.Common.{◌≡◌, ◌∙◌, ◌<◌, ◌≤◌, ◌+◌, ◌-◌, ◌*◌, ◌/◌, ◌%◌, ℕ, List, [], ◌∷◌, ◌++◌, length, All, Option, Some, IfSome, IfOk, OnOk, OnErr, IfErr, Result, Ok, Err, refl, sym, ap, subst, arith, le_refl}
+use Rattle.std.proofs.Common.{◌≡◌, ◌∙◌, ◌<◌, ◌≤◌, ◌+◌, ◌-◌, ◌*◌, ◌/◌, ◌%◌, ℕ, List, [], ◌∷◌, ◌++◌, length, All, Option, Some, IfSome, OnOk, OnErr, IfErr, Result, Ok, Err, refl, sym, ap, subst, arith, le_refl}
 use Rattle.outside.specs.Files.{Files}
 use Rattle.outside.specs.Reads.{Entry}
 use Rattle.outside.specs.Seen.{Seen}
@@ -101,34 +101,24 @@ module _ (u : Unit {0}) (place : Place) (width from to long : ℕ) (read bytes :
 
 -- ---- ids that are copied after they were read
 
-pub copied_ids : (r : Result (List ℕ) ColumnFault) (held : Option Files) (place : Place) (width own count rows : ℕ) (before room : List ℕ) → width ≡ own → before ≡ [] → AppendsRange held place width count 0 rows before room
-    → IfOk r (λ all. all ≡ room) → IfOk r (AppendsRange held place own count 0 rows [])
-copied_ids (Ok x) held place width own count rows before room is none appends same =
-    subst (λ w. AppendsRange held place w count 0 rows [] x) is
-    (subst (λ b. AppendsRange held place width count 0 rows b x) none (subst (AppendsRange held place width count 0 rows before) (sym same) appends))
-copied_ids (Err e) held place width own count rows before room is none appends same = tt
-
-pub copied_reads : {A : Type 0} (u : Unit {0}) (r : Result A ColumnFault) (place : Place) (width own count rows : ℕ) (old new : Seen) → width ≡ own → IfErr r (λ fault. fault ≡ NoMemory)
-    → ReadsRange (Ok u) place width count 0 rows old new → ReadsRange r place own count 0 rows old new
-copied_reads {A = A} u (Ok x) place width own count rows old new is only reads =
-    subst (λ w. ReadsRange {A = A} (Ok x) place w count 0 rows old new) is
-    (record {
-      only_reads = reads_so _ _ old new (λ err. absurd cc) (λ err. absurd cc) reads.only_reads;
-      log = reads.log;
-      log_of_fault = tt;
-      past = reads.past;
-      bad = λ err. absurd cc;
-    })
-copied_reads {A = A} u (Err e) place width own count rows old new is only reads =
+pub copied_reads : {A : Type 0} (u : Unit {0}) (r : Result A ColumnFault) (place : Place) (width count from to : ℕ) (old new : Seen) → IfErr r (λ fault. fault ≡ NoMemory)
+    → ReadsRange (Ok u) place width count from to old new → ReadsRange r place width count from to old new
+copied_reads u (Ok x) place width count from to old new only reads = record {
+  only_reads = reads_so _ _ old new (λ err. absurd cc) (λ err. absurd cc) reads.only_reads;
+  log = reads.log;
+  log_of_fault = tt;
+  past = reads.past;
+  bad = λ err. absurd cc;
+}
+copied_reads u (Err e) place width count from to old new only reads =
     let no : e ≡ NoMemory = only in
-    subst (λ w. ReadsRange {A = A} (Err e) place w count 0 rows old new) is
-    (record {
+    record {
       only_reads = reads_so _ _ old new (λ err. absurd cc) (λ err. absurd cc) reads.only_reads;
       log = tt;
-      log_of_fault = logs-up place.file (place.offset + first_byte width 0) (place.offset + end_byte width 0 rows) (place.offset + end_byte width 0 rows) old.log new.log new.log (le_refl _) reads.log refl;
+      log_of_fault = logs-up place.file (place.offset + first_byte width from) (place.offset + end_byte width from to) (place.offset + end_byte width from to) old.log new.log new.log (le_refl _) reads.log refl;
       past = reads.past;
       bad = λ err. absurd cc;
-    })
+    }
 
 -- ---- the reads of a column
 

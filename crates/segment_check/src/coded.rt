@@ -1,5 +1,5 @@
 //! The columns of a file are read by the ids of their values.
-ghost use Rattle.std.specs.Prelude.{◌≡◌, ◌<◌, ◌++◌, ◌∷◌, [], ℕ, List, IfErr, IfOk, IsSome, OnOk, length};
+ghost use Rattle.std.specs.Prelude.{◌≡◌, ◌≤◌, ◌<◌, ◌++◌, ◌∷◌, [], ℕ, List, IfErr, IfOk, IsSome, OnOk, length};
 ghost use Rattle.outside.specs.Seen.{seen};
 ghost use Rattle.bit_column.specs.Column.{width_of};
 ghost use Rattle.bit_column.specs.Reading.{ReadsRange};
@@ -107,17 +107,35 @@ fn read_ids<S: Shelf>(
         from: 0,
         to: rows,
     };
-    let mut buffer = Vec::new(alloc);
     if range.width.bits <= 16 {
-        room.clear();
-        return match append_narrow(alloc, shelf, place, range, &mut buffer, room) {
-            Ok(()) => copied(alloc, room),
-            Err(fault) => Err(fault),
-        };
+        return read_narrow(alloc, shelf, place, range, room);
     }
+    let mut buffer = Vec::new(alloc);
     let mut ids = Vec::new(alloc);
     match append_range(alloc, shelf, place, range, &mut buffer, &mut ids) {
         Ok(()) => Ok(RowIds::from_wide(ids)),
+        Err(fault) => Err(fault),
+    }
+}
+
+// The ids of a range in two bytes each.
+fn read_narrow<S: Shelf>(
+    alloc: Global,
+    shelf: &mut S,
+    place: &Place,
+    range: IdRange,
+    room: &mut NarrowIds,
+) -> Result<RowIds, ColumnFault>
+    requires { range.width.bits ≤ 16 }
+    ensures ids { IfOk result (λ ids. AppendsRange (S.held shelf.old) place.now
+        range.width.bits range.count range.from range.to [] ids) }
+    ensures reads { ReadsRange result place.now range.width.bits range.count range.from range.to
+        (seen S.Shelf shelf.old) (seen S.Shelf shelf.new) }
+{
+    room.clear();
+    let mut buffer = Vec::new(alloc);
+    match append_narrow(alloc, shelf, place, range, &mut buffer, room) {
+        Ok(()) => copied(alloc, room),
         Err(fault) => Err(fault),
     }
 }
