@@ -43,7 +43,7 @@ KeysAreTerms = OfBound (λ table q b. map (λ k. at_place b k.item) b.order
 
 -- ---- HAVING
 
--- A condition on a group by what it tests: a column, an aggregate, or `None` where a place has none.
+-- A condition on a group by what it tests: a column or an aggregate, `None` where a place has none.
 mutual
   pub data Asks : Type 0 where
     Test : Option Meaning → CompareOp → Value → Asks
