@@ -16,7 +16,7 @@ use crate::loading::load_marked;
 use outside::Shelf;
 use segment_file::HeadFault;
 use segment_head::{EngineFault, Head, Matched, NoMemory};
-use segment_plan::{IndexChoice, is_indexed, named_columns};
+use segment_plan::{IndexChoice, fixed_choice, named_columns};
 use std::alloc::Global;
 use table_schema::{BoundQuery, Conjunct, Table};
 use values::Test;
@@ -25,11 +25,14 @@ use values::Test;
 #[derive(Drop)]
 pub struct Found {
     pub column: u16,
+    /// The index of the column.
+    pub choice: IndexChoice,
     pub matched: Matched,
 }
 
-/// Looks up the column of a query that tests one column, which has no index and a large dictionary,
-/// and asks no more of it; unless a star-tree answers. Bounds are cut where the dictionary lies.
+/// Looks up the column of a query that tests one column, which has a large dictionary and no range
+/// index, and asks no more of it; unless a star-tree answers. Bounds are cut where the dictionary
+/// lies.
 pub(crate) fn look_up<S: Shelf>(
     alloc: Global,
     shelf: &mut S,
@@ -41,7 +44,7 @@ pub(crate) fn look_up<S: Shelf>(
     requires { IsQueryOnHead query.now table.now head.now }
     ensures untreed { IfOk result (λ found. IfSome found (λ f. by_tree ≡ false)) }
     ensures found { IfOk result (λ found. IfSome found (λ f.
-        IsFound query.now table.now (S.held shelf.old) head.now f.column f.matched)) }
+        IsFound query.now table.now (S.held shelf.old) head.now f.column f.choice f.matched)) }
     ensures looks { LooksUp table.now result head.now
         (seen S.Shelf shelf.old) (seen S.Shelf shelf.new) }
 {
@@ -52,14 +55,25 @@ pub(crate) fn look_up<S: Shelf>(
     let Conjunct::One(column, test) = &conjuncts[0] else {
         return Ok(None);
     };
-    if !is_large(head, *column) || !names_few(test) || is_indexed(&table.settings, *column) {
+    if !is_large(head, *column) || !names_few(test) {
         return Ok(None);
     }
+    let Some(choice) = fixed_choice(&table.settings, *column) else {
+        return Ok(None);
+    };
     let others = other_columns(alloc, query, table.schema.fields.len())?;
     if others[*column as usize] {
         return Ok(None);
     }
-    find(alloc, shelf, table, head, *column, test)
+    match find(alloc, shelf, table, head, *column, test) {
+        Ok(Some(matched)) => Ok(Some(Found {
+            column: *column,
+            choice,
+            matched,
+        })),
+        Ok(None) => Ok(None),
+        Err(fault) => Err(fault),
+    }
 }
 
 /// How many values a column has, and the ids of those that satisfy a test, unless its dictionary is
@@ -71,18 +85,16 @@ pub(crate) fn find<S: Shelf>(
     head: &Head,
     column: u16,
     test: &Test,
-) -> Result<Option<Found>, EngineFault>
+) -> Result<Option<Matched>, EngineFault>
     requires { IsColumnOf table.now head.now column }
-    ensures column { IfOk result (λ found. IfSome found (λ f. f.column ≡ column)) }
-    ensures found { IfOk result (λ found. IfSome found (λ f.
-        OfWhole table.now (S.held shelf.old) head.now
-        (OfColumn column (IsFoundIn test.now f.matched)))) }
-    ensures few { IfOk result (λ found. IfSome found (λ f. f.matched.count ≤ most_values)) }
+    ensures found { IfOk result (λ found. IfSome found (λ m.
+        OfWhole table.now (S.held shelf.old) head.now (OfColumn column (IsFoundIn test.now m)))) }
+    ensures few { IfOk result (λ found. IfSome found (λ m. m.count ≤ most_values)) }
     ensures looks { LooksUp table.now result head.now
         (seen S.Shelf shelf.old) (seen S.Shelf shelf.new) }
 {
     match head.matched(alloc, shelf, table, column, test) {
-        Ok(matched) => Ok(Some(Found { column, matched })),
+        Ok(matched) => Ok(Some(matched)),
         Err(HeadFault::NotASegment(_)) => Ok(None),
         Err(HeadFault::ReadFault) => Err(EngineFault::ReadFault),
         Err(HeadFault::NoMemory) => Err(EngineFault::NoMemory),
