@@ -35,7 +35,7 @@ use Rattle.segment_file.specs.declared.part.Part.TheVariants.{Forward}
 use Rattle.segment_file.specs.declared.part.Part.TheVariants as parts
 use Rattle.segment_head.specs.Heads.{IsHeadOf, Seen, bytes_in, place_in}
 use Rattle.segment_head.specs.Stored.{IsOfImage}
-use Rattle.segment_plan.specs.Choices.{IsFixed, choice_of}
+use Rattle.segment_plan.specs.Choices.{choice_of}
 use Rattle.segment_plan.specs.Laws.{HeadTells, PlanIsOver, TellsOf}
 use Rattle.segment_plan.specs.Matched.{AreLoaded, count_in, is_filtered, is_on, matched, passes, values_in}
 use Rattle.segment_plan.specs.Named.{AreNamedLoaded, agg_names, conjunct_names, is_in, names_in, query_names}
@@ -68,7 +68,7 @@ use Rattle.segment_scan.proofs.LeftImage.{check_within, left_count, permuted, su
 use Rattle.segment_scan.proofs.ServedLemmas.{unserved_names}
 use Rattle.query_executor.specs.Alike.{IdsAreAlike, IsAlike, with_own}
 use Rattle.segment_head.specs.ColumnIds.{with_ids}
-use Rattle.segment_opening.specs.Found.{IsTestedAlone, unfiltered}
+use Rattle.segment_opening.specs.Found.{IsFixed, IsTestedAlone, unfiltered}
 use Rattle.query_executor.specs.ByIds.{IsAskedOf, IsByIds}
 use Rattle.query_executor.proofs.IdsReads.{docs_alike, full_count, full_head, full_image, full_loaded, full_reads, full_values, given_count, matching_same, others_same, read_alike, same_marks}
 
@@ -367,7 +367,7 @@ module _ (read : ImagesRead) (leave : ImagesLeave) (tells_law : HeadTells) (over
 
   alike_overfull : (added : List (List Value)) (old : KeptGroups) → AreRead asked table files given added → IsOverfull asked added old → IsOverfull query (selected query os) old
   alike_overfull added old (inl is) over = overfull_as added (selected query os) old (whole_agree added is.1) over
-  alike_overfull added old (inr parts) over new adds =
+  alike_overfull added old (inr parts) over = λ new adds.
       overfull_as added (both_rows added parts) old (parts_agree added parts) over new
       (permuted_adds (shape_of query) (selected query os) (both_rows added parts) (groups_in old) new (both_permuted added parts) adds)
 
@@ -628,7 +628,7 @@ module _ (read : ImagesRead) (leave : ImagesLeave) (tells_law : HeadTells) (over
 
   alike_docs : (n : ℕ) (x y : Option (List Entry)) → AreDocs asked table (Some files) given n → LogsScan asked table (Some files) given n x y → AreDocs query table (Some files) full n
   alike_docs n x y docs (inl (none, logs)) = whole_docs read leave query table (Some files) full a.valid of_head is_loaded (full_none none) n (docs.all none)
-  alike_docs n x y docs (inr (ds, left, is, logs)) =
+  alike_docs n x y docs (inr (ds, left, is, between, indexes, parts)) =
       let own = left_alike ds left in
       record {
         at_most = docs.at_most;

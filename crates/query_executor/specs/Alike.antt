@@ -19,7 +19,6 @@ use Rattle.segment_file.specs.Image.{dictionary_of}
 use Rattle.segment_plan.specs.declared.plans.IndexChoice.{IndexChoice}
 use Rattle.segment_plan.specs.declared.plans.ScanPlan.{ScanPlan}
 use Rattle.segment_plan.specs.declared.plans.SegmentPlan.TheVariants.{Scan}
-use Rattle.segment_plan.specs.Choices.{IsFixed}
 use Rattle.segment_plan.specs.Named.{names_in, query_names}
 use Rattle.segment_plan.specs.Planned.{plan_over}
 use Rattle.segment_plan.specs.Pruning.{is_pruned}
@@ -27,7 +26,7 @@ use Rattle.segment_scan.specs.Agreement.{AgreeAll}
 use Rattle.segment_scan.specs.Images.{AreDocs, AreRead, IsBadIn, LogsScan, LogsScanPartly, choices_for}
 use Rattle.segment_scan.specs.Scans.{selected_read}
 use Rattle.segment_head.specs.ColumnIds.{with_ids}
-use Rattle.segment_opening.specs.Found.{unfiltered}
+use Rattle.segment_opening.specs.Found.{IsFixed, unfiltered}
 use Rattle.query_executor.specs.ByIds.{IsAskedOf}
 
 -- the rows that are read by ids and satisfy the filter agree, in the group columns and those of the

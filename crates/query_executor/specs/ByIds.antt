@@ -18,12 +18,11 @@ use Rattle.segment_file.specs.Ordered.{ordered}
 use Rattle.segment_head.specs.Heads.{IsHeadOf, Seen}
 use Rattle.segment_head.specs.Stored.{HasImage, IsOfImage}
 use Rattle.segment_head.specs.declared.stored.Stored.{Stored}
-use Rattle.segment_plan.specs.Choices.{IsFixed}
 use Rattle.segment_plan.specs.Named.{AreNamedLoaded}
 use Rattle.segment_plan.specs.declared.plans.IndexChoice.{IndexChoice}
 use Rattle.segment_plan.specs.Pruning.{is_pruned}
 use Rattle.segment_opening.specs.Calls.{IsOpened}
-use Rattle.segment_opening.specs.Found.{IsTestedAlone, unfiltered}
+use Rattle.segment_opening.specs.Found.{IsFixed, IsTestedAlone, unfiltered}
 
 -- the query asks for the groups and aggregates of another, of the rows with one of these ids in the
 -- column

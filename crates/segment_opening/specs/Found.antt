@@ -6,11 +6,12 @@ use Rattle.value_ids.specs.Dictionary.{Distinct, most_values}
 use Rattle.value_ids.specs.Ids.{matching}
 use Rattle.table_schema.specs.declared.query.BoundQuery.{BoundQuery}
 use Rattle.table_schema.specs.declared.query.Conjunct.TheVariants.{One}
+use Rattle.table_schema.specs.declared.settings.Settings.{Settings}
 use Rattle.table_schema.specs.declared.table.Table.{Table}
 use Rattle.segment_head.specs.Heads.{OfWhole, Seen}
 use Rattle.segment_head.specs.declared.column_ids.Matched.{Matched}
 use Rattle.segment_head.specs.Lookups.{OfColumn}
-use Rattle.segment_plan.specs.Choices.{IsFixed}
+use Rattle.segment_plan.specs.Choices.{choice_of}
 use Rattle.segment_plan.specs.declared.plans.IndexChoice.{IndexChoice}
 use Rattle.segment_plan.specs.Named.{AreNamedLoaded, query_names}
 
@@ -23,6 +24,11 @@ unfiltered query = record query { conjuncts = [] }
 pub record IsTestedAlone (query : BoundQuery) (column : ℕ) (test : Test) : Type 0 where
   pub only : query.conjuncts ≡ One column test ∷ []
   pub apart : query_names (unfiltered query) column ≡ false
+
+-- for each test of the column alone this is the index by which its rows are found
+abbrev pub IsFixed : Settings → ℕ → IndexChoice → Type 0
+IsFixed settings column choice = (head : Seen) (test : Test)
+    → choice_of settings head (One column test) ≡ choice
 
 -- a dictionary has so many values, and these are the ids of those that satisfy the test
 abbrev pub IsFoundIn : Test → Matched → Distinct → Type 0

@@ -1,24 +1,26 @@
 //! A column that a query tests alone is looked up where its dictionary lies.
-ghost use Rattle.std.specs.Prelude.{◌≡◌, ◌≤◌, ◌<◌, ◌∷◌, [], false, true, IfOk, IfSome, OnOk, length};
+ghost use Rattle.std.specs.Prelude.{◌≡◌, ◌≤◌, ◌<◌, ◌∷◌, [], false, true, IfOk, IfSome, OnOk, length, slice_get};
 ghost use Rattle.outside.specs.Seen.{seen};
 ghost use Rattle.values.specs.declared.test.Test as tests;
 ghost use Rattle.value_ids.specs.Dictionary.{most_values};
+ghost use Rattle.table_schema.specs.NeedIds.{is_set};
 ghost use Rattle.table_schema.specs.declared.query.Conjunct.TheVariants.{One};
 ghost use Rattle.segment_head.specs.Calls.{IsColumnOf};
 ghost use Rattle.segment_head.specs.Heads.{OfWhole};
 ghost use Rattle.segment_head.specs.Lookups.{OfColumn};
+ghost use Rattle.segment_plan.specs.Choices as spec;
 ghost use Rattle.segment_plan.specs.Named.{AreNamedLoaded, MarksColumns, query_names};
 ghost use Rattle.segment_opening.specs.Calls.{IsQueryOnHead, LoadsMore, LooksUp};
-ghost use Rattle.segment_opening.specs.Found.{IsFound, IsFoundIn, unfiltered};
+ghost use Rattle.segment_opening.specs.Found.{IsFixed, IsFound, IsFoundIn, unfiltered};
 
 use crate::emptied::{is_large, names_few};
 use crate::loading::load_marked;
 use outside::Shelf;
 use segment_file::HeadFault;
 use segment_head::{EngineFault, Head, Matched, NoMemory};
-use segment_plan::{IndexChoice, fixed_choice, named_columns};
+use segment_plan::{IndexChoice, is_indexed, named_columns};
 use std::alloc::Global;
-use table_schema::{BoundQuery, Conjunct, Table};
+use table_schema::{BoundQuery, Conjunct, Settings, Table};
 use values::Test;
 
 /// What was found in the dictionary of a column that a query tests alone.
@@ -130,4 +132,35 @@ fn other_columns(alloc: Global, query: &BoundQuery, count: usize) -> Result<Vec<
         (query_names (unfiltered query.now)) }
 {
     named_columns(alloc, query, &[IndexChoice::Sorted], count)
+}
+
+// The index by which the rows of a conjunct on the column are found, where it is the same for each
+// test.
+fn fixed_choice(settings: &Settings, column: u16) -> Option<IndexChoice>
+    ensures { IfSome result (λ choice. IsFixed settings.now column choice) }
+{
+    if !is_indexed(settings, column) {
+        return Some(IndexChoice::Unindexed);
+    }
+    if is_sorted_on(settings, column) {
+        return Some(IndexChoice::Sorted);
+    }
+    if is_inverted(settings, column) {
+        return Some(IndexChoice::Inverted);
+    }
+    None
+}
+
+// The column is the sorted one.
+fn is_sorted_on(settings: &Settings, column: u16) -> bool
+    ensures { result ≡ spec.is_sorted_on settings.now.sorted column }
+{
+    matches!(settings.sorted, Some(sorted) if sorted == column)
+}
+
+// The column has an inverted index.
+fn is_inverted(settings: &Settings, column: u16) -> bool
+    ensures { result ≡ is_set (slice_get settings.now.inverted column) }
+{
+    matches!(settings.inverted.as_slice().get(column as usize), Some(true))
 }

@@ -1,6 +1,5 @@
 -- The index by which the rows of a conjunct are found.
 use Rattle.std.specs.Prelude.{◌≡◌, ℕ, Bool, true, false, ◌&&◌, ◌==◌, ◌+◌, List, [], ◌∷◌, Option, Some, None, slice_get, if◌then◌else◌}
-use Rattle.values.specs.declared.test.Test.{Test}
 use Rattle.table_schema.specs.declared.query.Conjunct.{Conjunct}
 use Rattle.table_schema.specs.declared.query.Conjunct.TheVariants.{One, Many}
 use Rattle.table_schema.specs.declared.settings.Settings.{Settings}
@@ -31,6 +30,12 @@ abbrev pub is_sorted_on : Option ℕ → ℕ → Bool
 is_sorted_on None column = false
 is_sorted_on (Some sorted) column = sorted == column
 
+-- the column has no index
+pub record IsUnindexed (settings : Settings) (column : ℕ) : Type 0 where
+  pub unsorted : is_sorted_on settings.sorted column ≡ false
+  pub uninverted : is_set (slice_get settings.inverted column) ≡ false
+  pub unranged : is_set (slice_get settings.ranged column) ≡ false
+
 -- the first of these that serves: the sorted column, an inverted index, and a range index where the
 -- matching ids are consecutive
 abbrev pub choice_of : Settings → Seen → Conjunct → IndexChoice
@@ -40,8 +45,3 @@ choice_of settings head (One column condition) =
     if is_set (slice_get settings.ranged column) && are_consecutive
     (matching condition (values_in head column)) then Range else Unindexed
 choice_of settings head (Many condition) = Unindexed
-
--- for each test of the column alone this is the choice
-abbrev pub IsFixed : Settings → ℕ → IndexChoice → Type 0
-IsFixed settings column choice = (head : Seen) (test : Test)
-    → choice_of settings head (One column test) ≡ choice

@@ -1,5 +1,5 @@
 //! The index by which the rows of a conjunct are found.
-ghost use Rattle.std.specs.Prelude.{◌≡◌, IfOk, IfSome, map, slice_get};
+ghost use Rattle.std.specs.Prelude.{◌≡◌, IfOk, false, map, slice_get};
 ghost use Rattle.table_schema.specs.NeedIds.{is_set};
 ghost use Rattle.segment_plan.specs.Choices as spec;
 ghost use Rattle.segment_plan.specs.Matched.{AreLoaded};
@@ -11,21 +11,13 @@ use std::alloc::Global;
 use table_schema::{Conjunct, Settings};
 use value_ids::IdSet;
 
-/// The index by which the rows of a conjunct on the column are found, where it is the same for each
-/// test.
-pub fn fixed_choice(settings: &Settings, column: u16) -> Option<IndexChoice>
-    ensures { IfSome result (λ choice. spec.IsFixed settings.now column choice) }
+/// Whether the column has an index.
+pub fn is_indexed(settings: &Settings, column: u16) -> bool
+    ensures { result ≡ false → spec.IsUnindexed settings.now column }
 {
-    if is_sorted_on(settings.sorted, column) {
-        return Some(IndexChoice::Sorted);
-    }
-    if is_set(settings.inverted.as_slice(), column) {
-        return Some(IndexChoice::Inverted);
-    }
-    if is_set(settings.ranged.as_slice(), column) {
-        return None;
-    }
-    Some(IndexChoice::Unindexed)
+    is_sorted_on(settings.sorted, column)
+        || is_set(settings.inverted.as_slice(), column)
+        || is_set(settings.ranged.as_slice(), column)
 }
 
 /// There are ids, and no id between them is left out. They ascend, so the ends tell.
