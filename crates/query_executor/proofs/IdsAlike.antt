@@ -483,13 +483,18 @@ module _ (read : ImagesRead) (leave : ImagesLeave) (tells_law : HeadTells) (over
 
   logs_docs_partly : (named : List Bool) (ds : List ℕ) (x y : Option (List Entry)) → LogsDocsPartly given named ds x y → LogsDocsPartly full named ds x y
   logs_docs_partly named ds x y (inl same) = inl same
-  logs_docs_partly named ds x y (inr (runs, apart, are, part)) = inr (runs, apart, are, record {
-    upto = part.upto;
-    at_most = part.at_most;
-    between = part.between;
-    before = logs_picked runs named part.upto x part.between part.before;
-    rest = later part.upto part.between part.rest;
-  })
+  logs_docs_partly named ds x y (inr (runs, apart, are, part)) = inr (
+    runs,
+    apart,
+    are,
+    record {
+      upto = part.upto;
+      at_most = part.at_most;
+      between = part.between;
+      before = logs_picked runs named part.upto x part.between part.before;
+      rest = later part.upto part.between part.rest;
+    },
+  )
     where
       later : (n : ℕ) (between : Option (List Entry)) → (y ≡ between) ⊎ ((n < length named) × LogsPickedPartly given runs named n between y) → (y ≡ between) ⊎ ((n < length named) × LogsPickedPartly full runs named n between y)
       later n between (inl same) = inl same

@@ -162,5 +162,8 @@ fn is_sorted_on(settings: &Settings, column: u16) -> bool
 fn is_inverted(settings: &Settings, column: u16) -> bool
     ensures { result ≡ is_set (slice_get settings.now.inverted column) }
 {
-    matches!(settings.inverted.as_slice().get(column as usize), Some(true))
+    matches!(
+        settings.inverted.as_slice().get(column as usize),
+        Some(true)
+    )
 }
