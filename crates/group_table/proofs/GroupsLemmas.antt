@@ -23,7 +23,7 @@ use Rattle.group_table.specs.Groups.{Groups, groups_of, is_key, has_key, key_of,
 use Rattle.group_table.specs.Shape.{Shape}
 use Rattle.group_table.proofs.KeptLemmas.{key_total, key_same}
 
-is_join : IsJoin merged_rows
+pub is_join : IsJoin merged_rows
 is_join = record { assoc = rows.any_grouping; comm = rows.any_order }
 
 or_false : (b : Bool) → b || false ≡ b
@@ -31,7 +31,7 @@ or_false true = refl
 or_false false = refl
 
 -- the aggregates of rows of both
-states_append : (aggs : List Agg) (xs ys : List (List Value)) → states_of aggs (xs ++ ys) ≡ merged_rows (states_of aggs xs) (states_of aggs ys)
+pub states_append : (aggs : List Agg) (xs ys : List (List Value)) → states_of aggs (xs ++ ys) ≡ merged_rows (states_of aggs xs) (states_of aggs ys)
 states_append [] xs ys = refl
 states_append (agg ∷ aggs) xs ys = λ i. (ap (state_of agg.kind) (map-append (number_for agg) xs ys) ∙ states.of_both agg.kind (map (number_for agg) xs) (map (number_for agg) ys)) i ∷ states_append aggs xs ys i
 
@@ -75,7 +75,7 @@ key_split : (shape : Shape) (key : List Value) (xs ys : List (List Value)) → o
 key_split shape key xs ys = ap (states_of shape.aggs) (filter-append (has_key shape.groups key) xs ys)
     ∙ states_append shape.aggs (filter (has_key shape.groups key) xs) (filter (has_key shape.groups key) ys)
 
-append_nil : {X : Type 0} (xs : List X) → xs ++ [] ≡ xs
+pub append_nil : {X : Type 0} (xs : List X) → xs ++ [] ≡ xs
 append_nil [] = refl
 append_nil (x ∷ xs) = ap (λ l. x ∷ l) (append_nil xs)
 

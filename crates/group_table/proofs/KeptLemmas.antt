@@ -51,7 +51,7 @@ pub inserted : (es fs : List Group) (k : List Value) (w : List AggState)
 inserted es fs k w h = finite.same_map key_total key_same _ _ (λ q. get_lookup fs q ∙ h q
     ∙ (λ i. cond (turned k q i) (Some w) (sym (get_lookup es q) i)) ∙ sym (finite.get-insert key_total (finite.from_entries {R = key_order} es) k w q))
 
-absent : (k : List Value) (es : List Group) → AllByRecursion (λ y. key_eq k y ≡ false) (keys_of es) → lookup (key_eq k) es ≡ None
+pub absent : (k : List Value) (es : List Group) → AllByRecursion (λ y. key_eq k y ≡ false) (keys_of es) → lookup (key_eq k) es ≡ None
 absent k [] h = refl
 absent k (e ∷ es) h = ap (λ b. cond b (Some e.1) (lookup (key_eq k) es)) h.0 ∙ absent k es h.1
 

@@ -1,6 +1,7 @@
 pub mod KeptLemmas
 mod KeptSteps
 pub mod GroupsLemmas
+pub mod EntryLemmas
 pub mod SlotFrames
 mod PooledSteps
 pub mod NewKeys

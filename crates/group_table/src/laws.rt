@@ -3,9 +3,12 @@
 ghost use Rattle.std.specs.Prelude.{◌≡◌, List, [], ◌∷◌, ◌++◌, Some, None, filter};
 ghost use Rattle.std.specs.Prelude.{if◌then◌else◌, IsPermutation};
 ghost use Rattle.std.specs.FinMap as finite;
+ghost use Rattle.std.specs.List.{IsDistinct};
+ghost use Rattle.std.specs.Map.{keys_of};
 ghost use Rattle.values.specs.declared.value.Value.{Value};
 ghost use Rattle.group_table.specs.Groups.{Groups, groups_of, is_key, has_key, key_of, states_of};
-ghost use Rattle.group_table.specs.Groups.{Adds, merged_in};
+ghost use Rattle.group_table.specs.Groups.{Adds, Group, merged_in, with_entries};
+ghost use Rattle.group_table.specs.Kept.{key_eq};
 ghost use Rattle.group_table.specs.Shape.{Shape};
 
 /// The groups of some rows have each key that a row has, with the aggregates of the rows that have
@@ -37,4 +40,12 @@ pub fn adds_law()
     ensures of_row { (shape : Shape) (row : List Value) (old : Groups)
         → Adds shape (row ∷ []) old
         (merged_in old (key_of shape.groups row) (states_of shape.aggs (row ∷ []))) }
+{}
+
+/// A table with the groups of some rows that absorbs one with the groups of others has the other
+/// rows added.
+pub fn absorb_law()
+    ensures { (shape : Shape) (done rows : List (List Value)) (groups : List Group)
+        → IsDistinct key_eq (keys_of groups) → finite.from_entries groups ≡ groups_of shape rows
+        → Adds shape rows (groups_of shape done) (with_entries (groups_of shape done) groups) }
 {}

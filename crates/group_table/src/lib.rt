@@ -9,7 +9,7 @@ mod table;
 
 pub use fault::TableFault;
 pub use groups_in::GroupsIn;
-pub use laws::{adds_law, groups_law};
-pub use query_pool::pool_for;
+pub use laws::{absorb_law, adds_law, groups_law};
+pub use query_pool::{kinds_in, pool_for};
 pub use state_pool::SlotPool;
 pub use table::GroupTable;

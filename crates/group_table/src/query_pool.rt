@@ -35,8 +35,8 @@ fn quota_for(query: &BoundQuery, most: u32) -> u32
     most
 }
 
-// The kinds of aggregates.
-fn kinds_in(alloc: Global, aggs: &[Agg]) -> Result<Kinds, NoMemory>
+/// The kinds of aggregates.
+pub fn kinds_in(alloc: Global, aggs: &[Agg]) -> Result<Kinds, NoMemory>
     ensures { IfOk result (λ kinds. kinds ≡ map (λ agg. agg.kind) aggs.now) }
 {
     let mut kinds = Kinds::new(alloc);

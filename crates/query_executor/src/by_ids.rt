@@ -14,7 +14,7 @@ use outside::{Seq, Shelf};
 use segment_head::{EngineFault, Head, Stored};
 use segment_opening::Found;
 use segment_plan::{IndexChoice, ScanPlan, SegmentPlan, head_tells_law};
-use segment_scan::{image_law, index_law, scan_segment};
+use segment_scan::{IdRooms, image_law, index_law, scan_segment};
 use star_answer::docs_bound_law;
 use std::alloc::Global;
 use table_schema::{BoundQuery, Table};
@@ -31,7 +31,7 @@ pub(crate) struct Asked<'a> {
 /// Adds the rows of a segment that have one of the ids that were found in the column that the query
 /// tests. The values of that column are not read.
 pub(crate) fn add_by_ids<S: Shelf>(
-    alloc: Global,
+    rooms: &mut IdRooms,
     shelf: &mut S,
     asked: &Asked<'_>,
     found: &Found,
@@ -56,11 +56,12 @@ pub(crate) fn add_by_ids<S: Shelf>(
     image_law();
     index_law();
     ids_law();
+    let alloc = rooms.alloc();
     head.keep_ids(alloc, found.column, found.matched.count)?;
     let by_ids = asked_by_ids(alloc, asked.query, found.column, &found.matched.ids)?;
     let plan = plan_by(alloc, found.choice)?;
     match scan_segment(
-        alloc,
+        rooms,
         shelf,
         head,
         asked.table,

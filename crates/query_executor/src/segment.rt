@@ -14,8 +14,8 @@ use outside::Shelf;
 use segment_head::{EngineFault, Stored};
 use segment_opening::{Loaded, load_or_look_up, open_segment};
 use segment_plan::{SegmentPlan, empty_law, head_tells_law, plan_over_law, prune, pruned_law};
+use segment_scan::IdRooms;
 use star_answer::docs_bound_law;
-use std::alloc::Global;
 use table_schema::{BoundQuery, Table};
 
 /// Adds the rows of a segment that satisfy the filter of a query to its groups, by a star-tree
@@ -23,7 +23,7 @@ use table_schema::{BoundQuery, Table};
 /// bounds is read. Where no value of a large dictionary satisfies a conjunct, none is loaded; of a
 /// column that is tested alone the values are not read.
 pub(crate) fn add_segment<S: Shelf>(
-    alloc: Global,
+    rooms: &mut IdRooms,
     shelf: &mut S,
     table: &Table,
     segment: &Stored,
@@ -42,6 +42,7 @@ pub(crate) fn add_segment<S: Shelf>(
     ensures stays { StaysIn groups.old pool.old groups.new pool.new }
 {
     docs_bound_law();
+    let alloc = rooms.alloc();
     let mut head = match open_segment(alloc, shelf, table, segment) {
         Ok(head) => head,
         Err(fault) => return Err(fault),
@@ -60,14 +61,14 @@ pub(crate) fn add_segment<S: Shelf>(
     };
     match loaded {
         Loaded::Emptied => Ok(nothing(SegmentPlan::Empty)),
-        Loaded::Wanted => add_planned(alloc, shelf, table, &head, query, groups, pool),
+        Loaded::Wanted => add_planned(rooms, shelf, table, &head, query, groups, pool),
         Loaded::But(found) => {
             let asked = Asked {
                 table,
                 segment,
                 query,
             };
-            add_by_ids(alloc, shelf, &asked, &found, &mut head, groups, pool)
+            add_by_ids(rooms, shelf, &asked, &found, &mut head, groups, pool)
         }
     }
 }

@@ -13,46 +13,11 @@ use Rattle.state_columns.proofs.DocLemmas.{rows_join}
 use Rattle.state_columns.proofs.MergedLemmas.{join_assoc, join_none}
 use Rattle.group_table.specs.Groups.{Group, Groups, key_order, merged_in, with_entries, with_states}
 use Rattle.group_table.specs.Kept.{IsNewKey, KeptGroups, Merges, groups_in}
+use Rattle.group_table.proofs.EntryLemmas.{entries_at, states_at}
 use Rattle.group_table.proofs.KeptLemmas.{key_same, key_total}
 use Rattle.scan_engine.specs.Scanned.{HaveAtMost}
 use Rattle.scan_engine.proofs.AddLemmas.{at_most_more, merged_fits, new_one}
 use Rattle.star_reader.specs.Entries.{MergesEntries}
-
--- the states of a key among some entries
-abbrev pub states_at : List Value → List Group → Option (List AggState)
-states_at key es = total merged_rows (eq_by_cmp key_order key) es
-
-with_own : (o : Option (List AggState)) (s : List AggState)
-    → Some (option_map_or (λ own. merged_rows own s) o s) ≡ join_some merged_rows o (Some s)
-with_own None s = refl
-with_own (Some own) s = refl
-
--- one entry more
-one_at : (groups : Groups) (key q : List Value) (s : List AggState)
-    → finite.get (merged_in groups key s) q
-    ≡ join_some merged_rows (finite.get groups q) (cond (eq_by_cmp key_order q key) (Some s) None)
-one_at groups key q s =
-    finite.get-insert key_total groups key (with_states groups key s) q
-    ∙ by (eq_by_cmp key_order q key) refl
-  where
-    by : (b : Bool) → eq_by_cmp key_order q key ≡ b
-        → cond b (Some (with_states groups key s)) (finite.get groups q)
-        ≡ join_some merged_rows (finite.get groups q) (cond b (Some s) None)
-    by true t = with_own (finite.get groups key) s
-        ∙ ap (λ (k : List Value). join_some merged_rows (finite.get groups k) (Some s))
-        (sym (tells_apart key_same q key t))
-    by false t = sym (join_none merged_rows rows_join (finite.get groups q))
-
--- at each key the states of both, where there are any
-pub entries_at : (groups : Groups) (es : List Group) (q : List Value)
-    → finite.get (with_entries groups es) q
-    ≡ join_some merged_rows (finite.get groups q) (states_at q es)
-entries_at groups [] q = sym (join_none merged_rows rows_join (finite.get groups q))
-entries_at groups (e ∷ es) q =
-    entries_at (merged_in groups e.0 e.1) es q
-    ∙ ap (λ o. join_some merged_rows o (states_at q es)) (one_at groups e.0 q e.1)
-    ∙ join_assoc merged_rows rows_join (finite.get groups q)
-    (cond (eq_by_cmp key_order q e.0) (Some e.1) None) (states_at q es)
 
 -- entries with the same states at each key give the same groups
 pub same_entries : (groups : Groups) (es fs : List Group)

@@ -33,7 +33,8 @@ use Rattle.scan_engine.proofs.AddLemmas.{at_most_more}
 use Rattle.star_reader.specs.declared.asked.GroupColumn.{GroupColumn}
 use Rattle.star_reader.specs.Entries.{MergesEntries}
 use Rattle.star_reader.specs.Selected.{AreKeyIds, key_values, keyed}
-use Rattle.star_answer.proofs.EntryLemmas.{merges_next, merges_none, merges_so, no_room, same_entries, states_at}
+use Rattle.group_table.proofs.EntryLemmas.{states_at}
+use Rattle.star_answer.proofs.EntryLemmas.{merges_next, merges_none, merges_so, no_room, same_entries}
 
 -- ---- a document
 

@@ -16,7 +16,7 @@ use Rattle.state_columns.proofs.RegionSteps.{kinds_merged}
 use Rattle.group_table.specs.Groups.{key_order}
 use Rattle.star_reader.specs.declared.asked.Asked.{Asked}
 use Rattle.star_reader.specs.Asked.{entries_of, key_of, states_of}
-use Rattle.star_answer.proofs.EntryLemmas.{states_at}
+use Rattle.group_table.proofs.EntryLemmas.{states_at}
 
 merged_at : (vs ws : List AggState) (i : ℕ) → length vs ≡ length ws → i < length vs
     → get_or (merged_rows vs ws) i (Count 0) ≡ merged (get_or vs i (Count 0)) (get_or ws i (Count 0))

@@ -55,7 +55,7 @@ use Rattle.star_reader.specs.Answers.{Answers, AreRead, IsOverfull, IsTree, aske
 use Rattle.star_reader.specs.Asked.{AreAsked, entries_of, key_of, states_of, value_of, AreSound}
 use Rattle.star_answer.specs.Served.{AreProjected, IsProjected, IsServed, flat_of}
 use Rattle.segment_reads.specs.Docs.{field_of}
-use Rattle.star_answer.proofs.EntryLemmas.{entries_at, states_at}
+use Rattle.group_table.proofs.EntryLemmas.{entries_at, states_at}
 use Rattle.star_answer.proofs.CoverLemmas.{all_below, passing_below, read_ones}
 use Rattle.star_answer.proofs.KeyedSteps.{entries_weight, picks_read, rows_light, rows_many, rows_ones, selected_keyed}
 use Rattle.star_answer.proofs.HoldLemmas.{holds_same}
