@@ -139,7 +139,7 @@ module _ (query asked : BoundQuery) (table : Table) (segment : Stored) (head : S
     pub bad_by_ids : (held : Option Files) → Can held → (part : Part) → IsBadIn asked table held given part → IsBadPart query table held segment part
     bad_by_ids held can part bad =
         let none = no_image held can part bad in
-        (inr (given, opened_given held can none, inl (can.unpicked, bad_alike query asked table column can.test choice ids can.fixed can.alone by held given part bad)), none)
+        (inr (given, opened_given held can none, inl (can.unpicked, bad_alike query asked column can.test ids can.alone by table choice can.fixed held given part bad)), none)
 
     pub done_by_ids : (read : ImagesRead) → HeadTells → (held : Option Files) → Can held → (plan : ScanPlan) (docs : ℕ) → plan.choices ≡ choice ∷ [] → (a b : Option (List Entry)) → AreDocs asked table held given docs → LogsScan asked table held given docs a b → IsDoneIn query table held segment (Scan plan) docs
     done_by_ids read tells None can plan docs choices x y are logs = tt
