@@ -11,6 +11,6 @@ pub returns-in-Ok-None-clause-looks : goal.returns-in-Ok-None-clause-looks
 returns-in-Ok-None-clause-looks g c =
     looks_else c.args.table.now _ _ c.args.head.now (seen g.S.Shelf c.args.shelf.now) (seen g.S.Shelf c.find.new.shelf) c.in-Ok-None.ensures.looks
 
-pub returns-clause-looks : goal.returns-in-Err-clause-looks
+pub returns-clause-looks : goal.returns-clause-looks
 returns-clause-looks g c =
     looks_err c.args.table.now c.in-Err.fault c.args.head.now (seen g.S.Shelf c.args.shelf.now) (seen g.S.Shelf c.find.new.shelf) c.in-Err.ensures.looks
