@@ -1,11 +1,11 @@
 -- Ids that are read as they are packed.
-use Rattle.std.proofs.Common.{◌≡◌, ◌∙◌, ◌<◌, ◌≤◌, ◌+◌, ◌-◌, ◌*◌, ◌/◌, ◌%◌, ℕ, List, [], ◌∷◌, ◌++◌, length, All, Option, Some, IfSome, OnOk, OnErr, IfErr, Result, Ok, Err, refl, sym, ap, subst, arith}
+use Rattle.std.proofs.Common.{◌≡◌, ◌∙◌, ◌<◌, ◌≤◌, ◌+◌, ◌-◌, ◌*◌, ◌/◌, ◌%◌, ℕ, List, [], ◌∷◌, ◌++◌, length, All, Option, Some, IfSome, OnOk, OnErr, IfErr, Result, Ok, Err, refl, sym, ap, subst, arith, le_refl}
 use Rattle.outside.specs.Files.{Files}
 use Rattle.outside.specs.Reads.{Entry}
 use Rattle.outside.specs.Seen.{Seen}
 use Rattle.outside.specs.declared.place.Place.{Place}
 use Rattle.std.specs.Result.{IsErr, IsErrAnd}
-use Rattle.outside.proofs.ReadLemmas.{LogsOn-through, logs-none}
+use Rattle.outside.proofs.ReadLemmas.{LogsOn-through, logs-none, logs-up}
 use Rattle.outside.proofs.SeenLemmas.{reads_none, reads_so}
 use Rattle.bit_column.specs.Bits.{bits_of, pieces}
 use Rattle.bit_column.specs.Column.{ids_between}
@@ -98,6 +98,27 @@ module _ (u : Unit {0}) (place : Place) (width from to long : ℕ) (read bytes :
       is_other : (r : Result (Unit {0}) ColumnFault) → IfErr r (λ fault. fault ≡ BadId) → r ≡ Err ReadFault → ⊥
       is_other (Ok x) h is = absurd cc
       is_other (Err e) h is = let own : e ≡ BadId = h in absurd cc
+
+-- ---- ids that are copied after they were read
+
+pub copied_reads : {A : Type 0} (u : Unit {0}) (r : Result A ColumnFault) (place : Place) (width count from to : ℕ) (old new : Seen) → IfErr r (λ fault. fault ≡ NoMemory)
+    → ReadsRange (Ok u) place width count from to old new → ReadsRange r place width count from to old new
+copied_reads u (Ok x) place width count from to old new only reads = record {
+  only_reads = reads_so _ _ old new (λ err. absurd cc) (λ err. absurd cc) reads.only_reads;
+  log = reads.log;
+  log_of_fault = tt;
+  past = reads.past;
+  bad = λ err. absurd cc;
+}
+copied_reads u (Err e) place width count from to old new only reads =
+    let no : e ≡ NoMemory = only in
+    record {
+      only_reads = reads_so _ _ old new (λ err. absurd cc) (λ err. absurd cc) reads.only_reads;
+      log = tt;
+      log_of_fault = logs-up place.file (place.offset + first_byte width from) (place.offset + end_byte width from to) (place.offset + end_byte width from to) old.log new.log new.log (le_refl _) reads.log refl;
+      past = reads.past;
+      bad = λ err. absurd cc;
+    }
 
 -- ---- the reads of a column
 
