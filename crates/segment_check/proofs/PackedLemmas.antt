@@ -23,13 +23,6 @@ use Rattle.segment_build.specs.FileLaws.{on_ok_then}
 use Rattle.segment_check.proofs.HeadLemmas.{placed_in, range_read}
 use Rattle.segment_check.proofs.Once.{range_once}
 
--- no ids
-pub no_ids : (width rows : ℕ) (bytes : List ℕ) → rows ≡ 0 → ids_between width 0 rows bytes ≡ []
-no_ids width rows bytes none = let e : rows - 0 ≡ 0 = omega (arith, none) in ap (λ n. pieces width (0 * width) n (bits_of 8 bytes)) e
-
-pub none_long : (l : List ℕ) → length l ≡ 0 → l ≡ []
-none_long l none = elim l as (λ xs. length xs ≡ 0 → xs ≡ []) [ [] ↦ λ e. refl | x ∷ xs ↦ λ e. absurd (omega (arith, e)) ] none
-
 -- nothing is read where there is no room for the ids
 pub growth_range : {A : Type 0} (r : Result A ColumnFault) (place : Place) (width count rows : ℕ) (old : Seen) → IsErr r × IsErrAnd r (λ f. f ≡ NoMemory) → ReadsRange r place width count 0 rows old old
 growth_range (Ok x) place width count rows old h = absurd h.1
