@@ -1,0 +1,3 @@
+pub mod FetchLemmas
+pub mod SoundLemmas
+pub mod ServingLemmas

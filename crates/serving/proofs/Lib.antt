@@ -1,0 +1,8 @@
+mod GatherLemmas
+mod PoolLemmas
+mod AnswerLemmas
+mod StandLemmas
+mod StoredLemmas
+mod PlaceLemmas
+mod MovedLemmas
+mod StepLemmas

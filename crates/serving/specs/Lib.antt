@@ -1,0 +1,5 @@
+pub mod Faults
+pub mod Kept
+pub mod Gathered
+pub mod Answered
+pub mod Calls
