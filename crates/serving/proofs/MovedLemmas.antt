@@ -139,6 +139,7 @@ module _ (pool : Pool) (c : Cursor) (to : ℕ) (own : IsCursorIn pool c) (next :
       pub moved_in : IsCursorIn new (record c { answered = to; groups = u })
       moved_in = record {
         owner = subst (λ n. n < 16) (sym stays.owner) own.owner;
+        owner_is = own.owner_is ∙ sym stays.owner;
         table = table_new;
         of_query = subst (IsTableOf c.query) (sym same_new) (record { columns = merges.columns ∙ old_query.columns; kinds = merges.kinds ∙ old_query.kinds });
         fits = subst (λ (k : KeptGroups). HaveAtMost (to * 1048576) (groups_in k)) (sym same_new)

@@ -76,6 +76,7 @@ module _ (old new : Pool) (c e : Cursor) (keeps : KeepsAside c.groups.owner gath
       let same : in_pool d.groups new ≡ in_pool d.groups old = same_in d.groups old new keeps.quotas kinds slots own.table.holds in
       record {
         owner = own.owner;
+        owner_is = own.owner_is;
         table = still_in d.groups old new keeps.quotas kinds slots own.table;
         of_query = subst (IsTableOf d.query) (sym same) own.of_query;
         fits = subst (λ (k : KeptGroups). HaveAtMost (d.answered * 1048576) (groups_in k)) (sym same) own.fits;
@@ -252,6 +253,7 @@ module _ (old new : Pool) (keeps : KeepsAside gatherer gatherer old new) where
       let same : in_pool d.groups new ≡ in_pool d.groups old = same_in d.groups old new keeps.quotas kinds slots own.table.holds in
       record {
         owner = own.owner;
+        owner_is = own.owner_is;
         table = still_in d.groups old new keeps.quotas kinds slots own.table;
         of_query = subst (IsTableOf d.query) (sym same) own.of_query;
         fits = subst (λ (k : KeptGroups). HaveAtMost (d.answered * 1048576) (groups_in k)) (sym same) own.fits;

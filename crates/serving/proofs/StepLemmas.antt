@@ -3,9 +3,9 @@ use Rattle.std.proofs.Common.{◌≡◌, ◌≢◌, ◌∙◌, ◌+◌, ◌-◌,
 use Rattle.std.specs.Prelude.{OnOk, if◌then◌else◌}
 use Rattle.std.specs.FinMap as finite
 use Rattle.std.specs.List.{AllByRecursion, AllZip}
-use Rattle.std.proofs.lemmas.Bool.{le-ltb, lt-ltb}
+use Rattle.std.proofs.lemmas.Bool.{false≢true, le-ltb, lt-ltb}
 use Rattle.std.proofs.lemmas.Grind.{flat_map-append}
-use Rattle.std.proofs.lemmas.List.{drop-map, length-map, take-map}
+use Rattle.std.proofs.lemmas.List.{drop-map, length-map, take-map, take_all}
 use Rattle.outside.specs.Files.{Files}
 use Rattle.values.specs.declared.value.Value.{Value}
 use Rattle.table_schema.specs.Conditions.{all_hold}
@@ -15,12 +15,17 @@ use Rattle.state_pool.specs.Pool.{Pool}
 use Rattle.group_table.specs.Groups.{Groups, groups_of}
 use Rattle.group_table.specs.Kept.{groups_in}
 use Rattle.group_table.specs.Pooled.{in_pool}
-use Rattle.group_table.specs.Shape.{shape_of}
+use Rattle.group_table.specs.Shape.{Shape, shape_of}
+use Rattle.broker_merge.specs.Answer.{answer_of, answer_text}
+use Rattle.broker_merge.specs.Reply as broker
+use Rattle.broker_merge.specs.Reply.{reply_over}
 use Rattle.scan_engine.specs.Scanned.{selected}
 use Rattle.segment_file.specs.declared.part.Part.{Part}
 use Rattle.segment_head.specs.Stored.{HasImage, HasNoImage, live, segment_at, stored_rows}
 use Rattle.segment_head.specs.declared.stored.Stored.{Stored}
 use Rattle.segment_reads.proofs.GrownLemmas.{zip_at}
+use Rattle.sql_reply.specs.Reply.{most_groups}
+use Rattle.sql_reply.specs.SqlReply.{replied}
 use Rattle.sql_reply.specs.declared.fault.SqlFault.{SqlFault}
 use Rattle.sql_reply.specs.declared.fault.SqlFault.TheVariants as sql
 use Rattle.query_executor.specs.declared.fault.ExecutorFault.{ExecutorFault}
@@ -28,7 +33,7 @@ use Rattle.query_executor.specs.declared.fault.ExecutorFault.TheVariants as exec
 use Rattle.table_store.specs.Stands.{Stands}
 use Rattle.table_store.specs.State.{HasTable, Texts}
 use Rattle.cursor_serve.specs.Machine as machine
-use Rattle.cursor_serve.specs.Machine.{After, Cursor as Kept, Listed, Machine, Step, is_over, left_of, most_cursor_groups, moved, rows_of, stepped, stepped_by}
+use Rattle.cursor_serve.specs.Machine.{After, Cursor as Kept, Listed, Machine, Fetch, Step, fetched, fetched_as, fetched_by, is_over, left_of, most_cursor_groups, moved, rows_of, stepped, stepped_by}
 use Rattle.cursor_serve.specs.Sound.{IsSound}
 use Rattle.cursor_serve.specs.ServingStands.{BothKept, HasFile, IsKeptAs, IsListOf, OpenCursor, ServingStands, kept_under, segments_of, stands_as}
 use Rattle.cursor_serve.proofs.SoundLemmas.{all_drop, stays_sound}
@@ -177,6 +182,19 @@ module _ (table : Table) (files : Files) (texts : Texts) (m : Machine) (name : L
     stands_now news puts sound = stands_with (cursors_in pool ds) news files texts table m name (record cursor { answered = to }) (cursor_in pool_new e) stands puts kept_now sound
         (all_later (HasFile m) cursor.answered to cursor.lists next (stands.answered name cursor found.got)) (stands.lists name cursor found.got)
 
+-- ---- a fault of the answer
+
+failed_by : {A : Type 0} (after : After A) (stands : Machine → Type 0) (live : Type 0) (why : ExecutorFault) → live
+    → ((f : SqlFault) → why ≡ executor.Sql f → f ≢ sql.NoMemory → (after.answer ≡ Err machine.TooManyGroups) × stands after.machine)
+    → ((n : ℕ) (part : Part) → why ≡ executor.NotASegment n part → ⊥) → IsAnsweredAs after stands live (Err (of_query why))
+failed_by after stands live (executor.Sql (sql.LongQuery n)) now full bad = full (sql.LongQuery n) refl (λ e. absurd cc)
+failed_by after stands live (executor.Sql (sql.BadQuery r n)) now full bad = full (sql.BadQuery r n) refl (λ e. absurd cc)
+failed_by after stands live (executor.Sql (sql.Unbound r n)) now full bad = full (sql.Unbound r n) refl (λ e. absurd cc)
+failed_by after stands live (executor.Sql (sql.TooManyGroups n)) now full bad = full (sql.TooManyGroups n) refl (λ e. absurd cc)
+failed_by after stands live (executor.Sql sql.NoMemory) now full bad = now
+failed_by after stands live (executor.NotASegment n part) now full bad = bad n part refl
+failed_by after stands live executor.ReadFault now full bad = now
+
 -- ---- a step
 
 abbrev next_rows : Kept → List (List Value)
@@ -248,32 +266,102 @@ module _ (table : Table) (pool : Pool) (ds : List Cursor) (name : List ℕ) (at 
       let to_is : c.answered + 1 ≡ cursor.answered + 1 = ap (λ n. n + 1) found.is.answered in
       let next : cursor.answered ≤ c.answered + 1 = let e = found.is.answered in omega (arith, e) in
       let lefts : 0 < left_of cursor = subst (λ n. 0 < n) (sym (left_as m found)) left in
-      by texts m stands found next to_is lefts why over bad
-    where
-      Answered : Texts → (m : Machine) → ExecutorFault → Type 0
-      Answered texts m why = IsAnsweredAs (stepped name m) (ServingStands (cursors_in pool ds) files texts table) (Stands files (HasTable texts (segments_of m.live))) (Err (of_query why))
+      failed_by (stepped name m) (ServingStands (cursors_in pool ds) files texts table) (Stands files (HasTable texts (segments_of m.live))) why stands.live
+      (λ f is_sql real.
+      let more = too_many table files texts m name pool ds c (c.answered + 1) stands found next (over f is_sql real) in
+      let is_more : is_over cursor.query (next_rows cursor) ≡ true = ap (λ n. is_over cursor.query (rows_of (take n cursor.lists))) (sym to_is) ∙ lt-ltb most_cursor_groups _ more in
+      let as : stepped name m ≡ steps_left name cursor m true = steps_as m name cursor found.got lefts true is_more in
+      subst (λ (a : After ℕ). (a.answer ≡ Err machine.TooManyGroups) × ServingStands (cursors_in pool ds) files texts table a.machine) (sym as) (refl, stands))
+      (λ n part is_bad.
+      let (lt, none) = bad n part is_bad in
+      never_bad table files texts m name pool ds c (c.answered + 1) stands found next n lt none)
 
-      full : (texts : Texts) (m : Machine) (stands : ServingStands (cursors_in pool ds) files texts table m) (found : IsFoundAs m name (cursor_in pool c)) (next : found.cursor.answered ≤ c.answered + 1)
-          → c.answered + 1 ≡ found.cursor.answered + 1 → 0 < left_of found.cursor → IsOverfull table (Some files) (next_stored c (c.answered + 1)) pool c
-          → ((stepped name m).answer ≡ Err machine.TooManyGroups) × ServingStands (cursors_in pool ds) files texts table (stepped name m).machine
-      full texts m stands found next to_is lefts over =
-          let cursor = found.cursor in
-          let more = too_many table files texts m name pool ds c (c.answered + 1) stands found next over in
-          let is_more : is_over cursor.query (next_rows cursor) ≡ true = ap (λ n. is_over cursor.query (rows_of (take n cursor.lists))) (sym to_is) ∙ lt-ltb most_cursor_groups _ more in
-          let as : stepped name m ≡ steps_left name cursor m true = steps_as m name cursor found.got lefts true is_more in
-          subst (λ (a : After ℕ). (a.answer ≡ Err machine.TooManyGroups) × ServingStands (cursors_in pool ds) files texts table a.machine) (sym as) (refl, stands)
+-- ---- a fetch
 
-      by : (texts : Texts) (m : Machine) (stands : ServingStands (cursors_in pool ds) files texts table m) (found : IsFoundAs m name (cursor_in pool c)) (next : found.cursor.answered ≤ c.answered + 1)
-          → c.answered + 1 ≡ found.cursor.answered + 1 → 0 < left_of found.cursor → (why : ExecutorFault)
-          → ((f : SqlFault) → why ≡ executor.Sql f → f ≢ sql.NoMemory → IsOverfull table (Some files) (next_stored c (c.answered + 1)) pool c)
-          → ((n : ℕ) (part : Part) → why ≡ executor.NotASegment n part → (n < length (next_stored c (c.answered + 1))) × HasNoImage table files (segment_at (next_stored c (c.answered + 1)) n))
-          → Answered texts m why
-      by texts m stands found next to_is lefts (executor.Sql (sql.LongQuery n)) over bad = full texts m stands found next to_is lefts (over (sql.LongQuery n) refl (λ e. absurd cc))
-      by texts m stands found next to_is lefts (executor.Sql (sql.BadQuery r n)) over bad = full texts m stands found next to_is lefts (over (sql.BadQuery r n) refl (λ e. absurd cc))
-      by texts m stands found next to_is lefts (executor.Sql (sql.Unbound r n)) over bad = full texts m stands found next to_is lefts (over (sql.Unbound r n) refl (λ e. absurd cc))
-      by texts m stands found next to_is lefts (executor.Sql (sql.TooManyGroups n)) over bad = full texts m stands found next to_is lefts (over (sql.TooManyGroups n) refl (λ e. absurd cc))
-      by texts m stands found next to_is lefts (executor.Sql sql.NoMemory) over bad = stands.live
-      by texts m stands found next to_is lefts (executor.NotASegment n part) over bad =
-          let (lt, none) = bad n part refl in
-          absurd (never_bad table files texts m name pool ds c (c.answered + 1) stands found next n lt none)
-      by texts m stands found next to_is lefts executor.ReadFault over bad = stands.live
+-- no cursor of the name
+pub fetches_none : (table : Table) (pool : Pool) (ds : List Cursor) (name : List ℕ) (held : Option Files) → place_under name ds ≡ None
+    → Serves (fetched name) table (cursors_in pool ds) (cursors_in pool ds) held held (Err fault.NoCursor)
+fetches_none table pool ds name None none = tt
+fetches_none table pool ds name (Some files) none = λ texts m stands.
+    let is : finite.get m.cursors name ≡ None = none_kept m name (cursors_in pool ds) (stands.cursors name) (no_place pool name ds none) in
+    subst (λ o. IsAnsweredAs (fetched_by name o m) (ServingStands (cursors_in pool ds) files texts table) (Stands files (HasTable texts (segments_of m.live))) (Err fault.NoCursor)) (sym is) (refl, stands)
+
+abbrev all_groups : Kept → Groups
+all_groups cursor = groups_of (shape_of cursor.query) (filter (λ row. all_hold row cursor.query.conjuncts) (rows_of cursor.lists))
+
+abbrev fetches_left : List ℕ → Kept → Machine → Bool → After (List ℕ)
+fetches_left name cursor m over = fetched_as name cursor m
+    (cond over broker.TooManyGroups (broker.Answers (answer_text (answer_of (shape_of cursor.query) (all_groups cursor)))))
+
+fetches_as : (m : Machine) (name : List ℕ) (cursor : Kept) → finite.get m.cursors name ≡ Some cursor
+    → (b : Bool) → nat_lt most_cursor_groups (finite.len (all_groups cursor)) ≡ b → fetched name m ≡ fetches_left name cursor m b
+fetches_as m name cursor got b over = ap (λ o. fetched_by name o m) got ∙ ap (fetches_left name cursor m) over
+
+-- the text of groups that are few
+text_of : (shape : Shape) (g h : Groups) (text : List ℕ) → g ≡ h → finite.len h ≤ most_cursor_groups → replied (reply_over most_groups shape g) ≡ Ok text → text ≡ answer_text (answer_of shape h)
+text_of shape g h text same few is =
+    by (nat_lt most_groups (finite.len h)) (le-ltb most_groups (finite.len h) (omega (arith, few))) (ap (λ (k : Groups). replied (reply_over most_groups shape k)) (sym same) ∙ is)
+  where
+    by : (b : Bool) → b ≡ false → replied (cond b broker.TooManyGroups (broker.Answers (answer_text (answer_of shape h)))) ≡ Ok text → text ≡ answer_text (answer_of shape h)
+    by true e is = absurd (false≢true (sym e))
+    by false e is = cc
+
+module _ (table : Table) (pool : Pool) (ds : List Cursor) (name : List ℕ) (at : ℕ) (c dflt : Cursor)
+    (place : place_under name ds ≡ Some at) (is : get_or ds at dflt ≡ c) (within : c.answered ≤ length c.segments) where
+  long_as : (m : Machine) (found : IsFoundAs m name (cursor_in pool c)) → length c.segments ≡ length found.cursor.lists
+  long_as m found = ap length found.is.segments ∙ length-map found.cursor.lists (λ (l : Listed). l.name)
+
+  rows_all : (m : Machine) (found : IsFoundAs m name (cursor_in pool c)) → groups_of (shape_of found.cursor.query) (filter (λ row. all_hold row found.cursor.query.conjuncts) (rows_of (take (length found.cursor.lists) found.cursor.lists))) ≡ all_groups found.cursor
+  rows_all m found = ap (λ l. groups_of (shape_of found.cursor.query) (filter (λ row. all_hold row found.cursor.query.conjuncts) (rows_of l))) (take_all (length found.cursor.lists) found.cursor.lists (omega arith))
+
+  -- all are answered, and this is the reply
+  pub fetches_moved : (held : Option Files) (pool_new : Pool) (e : Cursor) (news : List OpenCursor) (text : List ℕ)
+      → AnswersRows table held (next_stored c (length c.segments)) pool pool_new c e → IsMoved (length c.segments) c e → IsCursorIn pool_new e → e.groups.most ≡ most_cursor_groups
+      → PutsUnder name (cursor_in pool_new e) (cursors_in pool ds) news → replied (reply_over most_groups (shape_of e.query) (groups_in (in_pool e.groups pool_new))) ≡ Ok text
+      → Serves (fetched name) table (cursors_in pool ds) news held held (Ok text)
+  fetches_moved None pool_new e news text answered is_moved it most puts says = tt
+  fetches_moved (Some files) pool_new e news text answered is_moved it most puts says = λ texts m stands.
+      let found = found_in table pool ds name at c dflt place is files texts m stands in
+      let cursor = found.cursor in
+      let all : ℕ = length cursor.lists in
+      let to_is : length c.segments ≡ all = long_as m found in
+      let answered_to : AnswersRows table (Some files) (next_stored c all) pool pool_new c e = subst (λ to. AnswersRows table (Some files) (next_stored c to) pool pool_new c e) to_is answered in
+      let moved_to : IsMoved all c e = subst (λ to. IsMoved to c e) to_is is_moved in
+      let next : cursor.answered ≤ all = let a = found.is.answered in omega (arith, a, to_is, within) in
+      let few : finite.len (all_groups cursor) ≤ most_cursor_groups = subst (λ (g : Groups). finite.len g ≤ most_cursor_groups) (rows_all m found)
+      (within_now table files texts m name pool ds c all stands found next pool_new e answered_to moved_to it most) in
+      let groups_are : groups_in (in_pool e.groups pool_new) ≡ all_groups cursor = groups_now table files texts m name pool ds c all stands found next pool_new e answered_to moved_to ∙ rows_all m found in
+      let as : fetched name m ≡ fetches_left name cursor m false = fetches_as m name cursor found.got false (le-ltb most_cursor_groups (finite.len (all_groups cursor)) few) in
+      let same_query : e.query ≡ cursor.query = is_moved.query ∙ found.is.query in
+      let is_text : text ≡ answer_text (answer_of (shape_of cursor.query) (all_groups cursor)) = text_of (shape_of cursor.query) (groups_in (in_pool e.groups pool_new)) (all_groups cursor) text groups_are few
+      (ap (λ (q : BoundQuery). replied (reply_over most_groups (shape_of q) (groups_in (in_pool e.groups pool_new)))) (sym same_query) ∙ says) in
+      let sound : IsSound (moved name cursor all m) = subst (λ (a : After (List ℕ)). IsSound a.machine) as (stays_sound 0 (Fetch name) m stands.sound) in
+      subst (λ (a : After (List ℕ)). IsAnsweredAs a (ServingStands news files texts table) (Stands files (HasTable texts (segments_of m.live))) (Ok text)) (sym as)
+      (ap Ok (sym is_text), stands_now table files texts m name pool ds c all stands found next pool_new e answered_to moved_to news puts sound)
+
+  -- they are not all answered, and the cursor is as it was
+  pub fetches_failed : (held : Option Files) (why : ExecutorFault)
+      → ((f : SqlFault) → why ≡ executor.Sql f → f ≢ sql.NoMemory → IsOverfull table held (next_stored c (length c.segments)) pool c)
+      → ((n : ℕ) (part : Part) → why ≡ executor.NotASegment n part → (n < length (next_stored c (length c.segments))) × IfSome held (λ files. HasNoImage table files (segment_at (next_stored c (length c.segments)) n)))
+      → Serves (fetched name) table (cursors_in pool ds) (cursors_in pool ds) held held (Err (of_query why))
+  fetches_failed None why over bad = tt
+  fetches_failed (Some files) why over bad = λ texts m stands.
+      let found = found_in table pool ds name at c dflt place is files texts m stands in
+      let cursor = found.cursor in
+      let to_is : length c.segments ≡ length cursor.lists = long_as m found in
+      let next : cursor.answered ≤ length c.segments = let a = found.is.answered in omega (arith, a, within) in
+      failed_by (fetched name m) (ServingStands (cursors_in pool ds) files texts table) (Stands files (HasTable texts (segments_of m.live))) why stands.live
+      (λ f is_sql real.
+      let more = too_many table files texts m name pool ds c (length c.segments) stands found next (over f is_sql real) in
+      let more_all : most_cursor_groups < finite.len (all_groups cursor) = subst (λ (g : Groups). most_cursor_groups < finite.len g) (rows_all m found)
+      (subst (λ n. most_cursor_groups < finite.len (groups_of (shape_of cursor.query) (filter (λ row. all_hold row cursor.query.conjuncts) (rows_of (take n cursor.lists))))) to_is more) in
+      let as : fetched name m ≡ fetches_left name cursor m true = fetches_as m name cursor found.got true (lt-ltb most_cursor_groups (finite.len (all_groups cursor)) more_all) in
+      subst (λ (a : After (List ℕ)). (a.answer ≡ Err machine.TooManyGroups) × ServingStands (cursors_in pool ds) files texts table a.machine) (sym as) (refl, stands))
+      (λ n part is_bad.
+      let (lt, none) = bad n part is_bad in
+      never_bad table files texts m name pool ds c (length c.segments) stands found next n lt none)
+
+-- a want of memory after all that is left was answered
+pub fetches_lacking : (table : Table) (olds news : List OpenCursor) (name : List ℕ) (held : Option Files) → Serves (fetched name) table olds news held held (Err fault.NoMemory)
+fetches_lacking table olds news name None = tt
+fetches_lacking table olds news name (Some files) = λ texts m stands. stands.live

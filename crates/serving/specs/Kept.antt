@@ -27,6 +27,11 @@ pub record IsPool (pool : Pool) : Type 0 where
   pub quotas : (owner : ℕ) → owner < 17 → quota_of pool owner ≡ most_cursor_groups
   pub width : pool.width ≡ 16
 
+-- such a pool in which nobody holds a slot
+pub record IsEmptyPool (pool : Pool) : Type 0 where
+  pub pool_is : IsPool pool
+  pub free : (owner : ℕ) → held pool owner ≡ 0
+
 -- the quotas are as before, and every other owner has its kinds and its slots as before
 pub record KeepsAside (one two : ℕ) (old new : Pool) : Type 0 where
   pub quotas : new.quotas ≡ old.quotas
@@ -54,6 +59,7 @@ cursors_in pool cursors = map (cursor_in pool) cursors
 -- have; and each segment that it has still to answer stands under some name
 pub record IsCursorIn (pool : Pool) (cursor : Cursor) : Type 0 where
   pub owner : cursor.groups.owner < most_cursors
+  pub owner_is : cursor.owner ≡ cursor.groups.owner
   pub table : IsTableIn cursor.groups pool
   pub of_query : IsTableOf cursor.query (in_pool cursor.groups pool)
   pub fits : HaveAtMost (cursor.answered * 1048576) (groups_in (in_pool cursor.groups pool))

@@ -2,4 +2,5 @@ pub mod Faults
 pub mod Kept
 pub mod Gathered
 pub mod Answered
+pub mod Opened
 pub mod Calls

@@ -15,6 +15,8 @@ pub struct Cursor {
     pub answered: u32,
     /// For each the published name under which its rows still stand, if any.
     pub files: Vec<Option<Name>>,
+    /// Whose slots its groups have.
+    pub owner: u16,
     /// The groups of the rows that are answered.
     pub groups: GroupTable,
 }

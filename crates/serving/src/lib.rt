@@ -7,6 +7,7 @@ mod answering;
 mod cursor;
 mod fault;
 mod gathering;
+mod opening;
 mod places;
 mod serving;
 
