@@ -1,9 +1,9 @@
 //! Ids are unpacked into two bytes each: in vectors while whole groups of eight are left, and then
 //! one by one.
-ghost use Rattle.std.specs.Prelude.{◌≡◌, ◌≤◌, ◌<◌, ◌+◌, ◌*◌, ◌^◌, ◌++◌, All, Err, IfErr, OnErr, OnOk, length};
+ghost use Rattle.std.specs.Prelude.{◌≡◌, ◌≤◌, ◌<◌, ◌+◌, ◌*◌, All, IfErr, OnErr, OnOk, length};
 ghost use Rattle.bit_column.specs.Bits.{bits_of, field, pieces};
 ghost use Rattle.bit_column.specs.Unpacked.{IsFilled};
-ghost use Rattle.bit_column.specs.declared.fault.ColumnFault.TheVariants.{BadId, ReadFault};
+ghost use Rattle.bit_column.specs.declared.fault.ColumnFault.TheVariants.{BadId};
 
 use crate::narrow_lanes::put_narrow_groups;
 use crate::reading::id_from;
@@ -11,34 +11,8 @@ use crate::testing::narrow_below;
 use crate::unpacking::{FEW_GROUPS, whole_groups};
 use crate::{ColumnFault, Width};
 
-/// Appends so many ids from a bit on, each of which is to be below the count.
-pub fn append_narrow_ids(
-    bytes: &[u8],
-    bit: usize,
-    width: Width,
-    count: u32,
-    number: usize,
-    ids: &mut Vec<u16>,
-) -> Result<(), ColumnFault>
-    requires bit { bit < 8 }
-    requires narrow { width.bits ≤ 16 }
-    requires number { number < 2 ^ 32 }
-    requires held { bit + number * width.bits ≤ 8 * length bytes.now }
-    ensures ids { OnOk result (ids.new.items
-        ≡ ids.old.items ++ pieces width.bits bit number (bits_of 8 bytes.now)) }
-    ensures below { OnOk result
-        (All (λ id. id < count) (pieces width.bits bit number (bits_of 8 bytes.now))) }
-    ensures bad { result ≡ Err BadId →
-        ¬ All (λ id. id < count) (pieces width.bits bit number (bits_of 8 bytes.now)) }
-    ensures read { ¬ (result ≡ Err ReadFault) }
-{
-    let start = ids.len();
-    ids.resize(start + number, 0)?;
-    unpack_narrow(bytes, bit, width, count, &mut ids[start..])
-}
-
-// The ids from a bit on, as many as there is place for, each of which is to be below the count.
-fn unpack_narrow(
+/// The ids from a bit on, as many as there is place for, each of which is to be below the count.
+pub fn unpack_narrow(
     bytes: &[u8],
     bit: usize,
     width: Width,

@@ -57,10 +57,10 @@ pub fn read_few<S: Shelf>(
     }
 }
 
-// Reads a part of a file into `into`, which has place for just its bytes. Nearly always one read
-// gives them all, and what goes on after fewer is out of the way.
+/// Reads a part of a file into `into`, which has place for just its bytes. Nearly always one read
+/// gives them all, and what goes on after fewer is out of the way.
 #[inline(always)]
-fn read_short<S: Shelf>(
+pub fn read_short<S: Shelf>(
     alloc: Global,
     shelf: &mut S,
     part: FilePart<'_>,

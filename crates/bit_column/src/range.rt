@@ -7,7 +7,7 @@ ghost use Rattle.bit_column.specs.Sections.{section, AppendsRange, Readable};
 ghost use Rattle.bit_column.specs.declared.fault.ColumnFault.TheVariants.{BadId, ReadFault};
 
 use crate::file_part::FilePart;
-use crate::narrowing::append_narrow_ids;
+use crate::narrow_ids::NarrowIds;
 use crate::part::read_few;
 use crate::range_bytes::read_bytes;
 use crate::reading::{append_ids, id_of};
@@ -69,7 +69,14 @@ pub fn append_range<S: Shelf>(
         (seen S.Shelf shelf.old) (seen S.Shelf shelf.new) }
 {
     if range.to - range.from != 1 {
-        return append_some(alloc, shelf, place, range, buffer, ids);
+        // A range that is lent to a call lies in memory: so it is another one, made for it.
+        let some = IdRange {
+            width: range.width,
+            count: range.count,
+            from: range.from,
+            to: range.to,
+        };
+        return append_some(alloc, shelf, place, some, buffer, ids);
     }
     let bit = range.from as u64 * range.width.bits as u64;
     let end = (range.to as u64 * range.width.bits as u64 + 7) / 8;
@@ -153,11 +160,11 @@ pub fn append_narrow<S: Shelf>(
     place: &Place,
     range: IdRange,
     buffer: &mut Vec<u8>,
-    ids: &mut Vec<u16>,
+    ids: &mut NarrowIds,
 ) -> Result<(), ColumnFault>
     requires { range.width.bits ≤ 16 }
     ensures ids { OnOk result (AppendsRange (S.held shelf.old) place.now range.width.bits
-        range.count range.from range.to ids.old.items ids.new.items) }
+        range.count range.from range.to ids.old ids.new) }
     ensures reads { ReadsRange result place.now range.width.bits range.count range.from range.to
         (seen S.Shelf shelf.old) (seen S.Shelf shelf.new) }
 {
@@ -167,14 +174,7 @@ pub fn append_narrow<S: Shelf>(
     let bit = first_bit(range);
     let number = (range.to - range.from) as usize;
     match read_bytes(alloc, shelf, place, range, buffer) {
-        Ok(()) => append_narrow_ids(
-            buffer.as_slice(),
-            bit,
-            range.width,
-            range.count,
-            number,
-            ids,
-        ),
+        Ok(()) => ids.append(buffer.as_slice(), bit, range.width, range.count, number),
         Err(fault) => Err(fault),
     }
 }

@@ -4,7 +4,7 @@ ghost use Rattle.outside.specs.Seen.{seen};
 ghost use Rattle.bit_column.specs.Reading.{ReadsBytes};
 
 use crate::file_part::FilePart;
-use crate::part::read_part;
+use crate::part::read_short;
 use crate::{ColumnFault, IdRange};
 use outside::{Place, Shelf};
 use std::alloc::Global;
@@ -35,7 +35,7 @@ pub fn read_bytes<S: Shelf>(
         from: first,
         to: end,
     };
-    match read_part(alloc, shelf, part, &mut *buffer) {
+    match read_short(alloc, shelf, part, &mut *buffer) {
         Ok(()) => Ok(()),
         Err(fault) => Err(fault),
     }

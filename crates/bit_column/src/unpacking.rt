@@ -44,8 +44,8 @@ pub fn unpack(
     Err(ColumnFault::BadId)
 }
 
-// Puts the ids from a bit on.
-fn put_ids(bytes: &[u8], bit: u32, width: Width, ids: &mut [u32])
+/// Puts the ids from a bit on, as many as there is place for.
+pub fn put_ids(bytes: &[u8], bit: u32, width: Width, ids: &mut [u32])
     requires bit { bit < 8 }
     requires held { bit + length ids.old * width.bits ≤ 8 * length bytes.now }
     ensures { ids.new ≡ pieces width.bits bit (length ids.old) (bits_of 8 bytes.now) }

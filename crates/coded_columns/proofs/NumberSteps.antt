@@ -1,7 +1,6 @@
 -- The numbers of rows in a column.
 use Rattle.std.proofs.Common.{◌≡◌, ◌∙◌, ◌<◌, ℕ, ℤ, pos, Option, Some, List, length, map, get_or, ap, sym, arith}
 use Rattle.std.specs.List.{All}
-use Rattle.std.proofs.lemmas.Int.{ints}
 use Rattle.std.proofs.lemmas.List.{ext_get_or, get_or-map, length-map}
 use Rattle.values.specs.declared.value.Value.{Value}
 use Rattle.values.specs.Columns.{row_of}

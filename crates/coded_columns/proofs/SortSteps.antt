@@ -1,5 +1,5 @@
 -- The numbers of values that are all numbers, or all texts.
-use Rattle.std.proofs.Common.{◌≡◌, ◌∙◌, ◌≤◌, [], ◌∷◌, ℕ, zero, suc, ℤ, pos, List, length, map, get_or, refl, ap, arith}
+use Rattle.std.proofs.Common.{◌≡◌, ◌∙◌, [], ◌∷◌, ℕ, zero, suc, ℤ, pos, List, map, get_or, refl, ap, arith}
 use Rattle.std.proofs.lemmas.Int.{ints}
 use Rattle.agg_laws.specs.Numbers.{IsWhole}
 use Rattle.values.specs.declared.value.Value.{Value}

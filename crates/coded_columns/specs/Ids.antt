@@ -7,7 +7,7 @@ use Rattle.coded_columns.specs.declared.ids.IdSlices.TheVariants as slices
 
 -- the ids that were added
 abbrev pub ids_in : IdRoom → List ℕ
-ids_in (room.Narrow ids) = ids.items
+ids_in (room.Narrow ids) = ids
 ids_in (room.Wide ids) = ids.items
 
 -- the ids where they lie

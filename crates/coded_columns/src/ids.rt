@@ -3,6 +3,7 @@
 ghost use Rattle.std.specs.Prelude.{◌≡◌, ◌≤◌, ◌<◌, ◌+◌, [], ℕ, IfOk, get_or, length};
 ghost use Rattle.coded_columns.specs.Ids.{HasRoom, IsNarrow, ids_in, most_narrow, seen_ids};
 
+use bit_column::NarrowIds;
 use std::alloc::Global;
 use std::marker::Model;
 use values::NoMemory;
@@ -49,7 +50,7 @@ impl Ids {
         ensures { result ≡ get_or self.now row 0 }
     {
         match &self.room {
-            IdRoom::Narrow(ids) => u32::from(ids[row]),
+            IdRoom::Narrow(ids) => u32::from(ids.as_slice()[row]),
             IdRoom::Wide(ids) => ids[row],
         }
     }
@@ -63,7 +64,7 @@ impl Ids {
             → get_or (seen_ids result) at 0 ≡ get_or self.now (from + at) 0 }
     {
         match &self.room {
-            IdRoom::Narrow(ids) => IdSlices::Narrow(&ids[from..from + many]),
+            IdRoom::Narrow(ids) => IdSlices::Narrow(&ids.as_slice()[from..from + many]),
             IdRoom::Wide(ids) => IdSlices::Wide(&ids[from..from + many]),
         }
     }
@@ -115,21 +116,27 @@ impl IdSlices<'_> {
 /// Room for the ids of a column, which are added block by block. Each has room in it.
 #[derive(Drop)]
 pub enum IdRoom {
-    Narrow(Vec<u16>),
+    Narrow(NarrowIds),
     Wide(Vec<u32>),
 }
 
 impl IdRoom {
-    /// Room for the ids of so many rows in a column of so many values.
-    pub fn for_values(alloc: Global, count: u32, rows: usize) -> Result<IdRoom, NoMemory>
+    /// Room for the ids of so many rows in a column of so many values: that of other ids, where it
+    /// is such, or new room.
+    pub fn for_values(
+        alloc: Global,
+        other: Option<Ids>,
+        count: u32,
+        rows: usize,
+    ) -> Result<IdRoom, NoMemory>
         ensures none { IfOk result (λ room. ids_in room ≡ []) }
         ensures room { IfOk result (λ room. (id : ℕ) → id < count → HasRoom room id) }
         ensures least { IfOk result (λ room. count ≤ most_narrow → IsNarrow room) }
     {
         if count <= MOST_NARROW {
-            return Ok(IdRoom::Narrow(Vec::with_capacity(alloc, rows)?));
+            return Ok(IdRoom::Narrow(narrow_room(alloc, other, rows)?));
         }
-        Ok(IdRoom::Wide(Vec::with_capacity(alloc, rows)?))
+        Ok(IdRoom::Wide(wide_room(alloc, other, rows)?))
     }
 
     /// The ids that were added.
@@ -137,5 +144,46 @@ impl IdRoom {
         ensures { result ≡ ids_in self }
     {
         Ids { room: self }
+    }
+}
+
+// Room for so many ids of two bytes: that of other ids, where it is such.
+fn narrow_room(alloc: Global, other: Option<Ids>, rows: usize) -> Result<NarrowIds, NoMemory>
+    ensures { IfOk result (λ ids. ids ≡ []) }
+{
+    let Some(Ids { room }) = other else {
+        return NarrowIds::with_room(alloc, rows);
+    };
+    match room {
+        IdRoom::Narrow(ids) => emptied(alloc, ids, rows),
+        IdRoom::Wide(_ids) => NarrowIds::with_room(alloc, rows),
+    }
+}
+
+// The room of other ids, or new room where there is less than is wanted.
+fn emptied(alloc: Global, mut ids: NarrowIds, rows: usize) -> Result<NarrowIds, NoMemory>
+    ensures { IfOk result (λ own. own ≡ []) }
+{
+    if ids.size() < rows {
+        drop(ids);
+        return NarrowIds::with_room(alloc, rows);
+    }
+    ids.clear();
+    Ok(ids)
+}
+
+// Room for so many ids of four bytes: that of other ids, where it is such.
+fn wide_room(alloc: Global, other: Option<Ids>, rows: usize) -> Result<Vec<u32>, NoMemory>
+    ensures { IfOk result (λ ids. ids.items ≡ []) }
+{
+    let Some(Ids { room }) = other else {
+        return Vec::with_capacity(alloc, rows);
+    };
+    match room {
+        IdRoom::Narrow(_ids) => Vec::with_capacity(alloc, rows),
+        IdRoom::Wide(mut ids) => {
+            ids.clear();
+            Ok(ids)
+        }
     }
 }

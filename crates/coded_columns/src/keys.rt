@@ -65,21 +65,111 @@ pub fn pack_keys(
     ensures { OnOk result (keys.new.items
         ≡ map (key_at placed.entry.segment.now groups.now) placed.entry.places.now) }
 {
-    keys.clear();
     keys.resize(placed.places.len(), 0)?;
+    put_first(placed, groups, keys);
     add_columns(placed, groups, keys);
     Ok(())
 }
 
-// Packs the ids of rows in each group column after their keys, which are 0 yet.
+// Puts the ids of rows in the first group column, or 0 where there is none.
+fn put_first(placed: PlacedRows<'_, '_>, groups: &[u16], keys: &mut [u32])
+    requires { length keys.old ≡ length placed.places.now }
+    ensures same { length keys.new ≡ length keys.old }
+    ensures each { (k : ℕ) → k < length placed.entry.places.now → get_or keys.new k 0
+        ≡ key_at placed.entry.segment.now (take 1 groups.now)
+        (get_or placed.entry.places.now k 0) }
+{
+    match groups.first() {
+        Some(group) => put_column(placed, *group, keys),
+        None => put_zeros(keys),
+    }
+}
+
+// Puts the ids of rows in a column, or 0 where it is not looked at.
+fn put_column(placed: PlacedRows<'_, '_>, group: u16, keys: &mut [u32])
+    requires { length keys.old ≡ length placed.places.now }
+    ensures same { length keys.new ≡ length keys.old }
+    ensures each { (k : ℕ) → k < length placed.entry.places.now → get_or keys.new k 0
+        ≡ packed_with (column_of placed.entry.segment.now group) 0
+        (get_or placed.entry.places.now k 0) }
+{
+    match placed.segment.at(group) {
+        Some(column) => put_ids(keys, column.ids, placed.places),
+        None => put_zeros(keys),
+    }
+}
+
+// Puts zeros.
+fn put_zeros(keys: &mut [u32])
+    ensures same { length keys.new ≡ length keys.old }
+    ensures each { (k : ℕ) → k < length keys.new → get_or keys.new k 0 ≡ 0 }
+{
+    for k in 0..keys.len() {
+        keys[k] = 0;
+    }
+}
+
+// Puts the ids of rows in a column.
+fn put_ids(keys: &mut [u32], ids: &Ids, places: &[u32])
+    requires same { length keys.old ≡ length places.now }
+    requires rows { AreBelow (length ids.now) places.now }
+    ensures same { length keys.new ≡ length keys.old }
+    ensures each { (k : ℕ) → k < length places.now → get_or keys.new k 0
+        ≡ get_or ids.now (get_or places.now k 0) 0 }
+{
+    match first_of(places) {
+        Some(first) => put_slices(keys, ids.between(first as usize, places.len())),
+        None => put_placed(keys, ids.slices(), places),
+    }
+}
+
+// Puts the ids of rows that lie one after the other.
+fn put_slices(keys: &mut [u32], ids: IdSlices<'_>)
+    requires { length keys.old ≡ length (seen_ids ids) }
+    ensures same { length keys.new ≡ length keys.old }
+    ensures each { (k : ℕ) → k < length keys.new
+        → get_or keys.new k 0 ≡ get_or (seen_ids ids.entry) k 0 }
+{
+    match ids {
+        IdSlices::Narrow(ids) => put_narrow(keys, ids),
+        IdSlices::Wide(ids) => keys.copy_from_slice(ids),
+    }
+}
+
+// The same where an id takes two bytes.
+fn put_narrow(keys: &mut [u32], ids: &[u16])
+    requires { length keys.old ≡ length ids.now }
+    ensures same { length keys.new ≡ length keys.old }
+    ensures each { (k : ℕ) → k < length keys.new → get_or keys.new k 0 ≡ get_or ids.now k 0 }
+{
+    for k in 0..keys.len() {
+        keys[k] = u32::from(ids[k]);
+    }
+}
+
+// Puts the ids of rows in any places.
+fn put_placed(keys: &mut [u32], ids: IdSlices<'_>, places: &[u32])
+    requires same { length keys.old ≡ length places.now }
+    requires rows { AreBelow (length (seen_ids ids)) places.now }
+    ensures same { length keys.new ≡ length keys.old }
+    ensures each { (k : ℕ) → k < length places.now → get_or keys.new k 0
+        ≡ get_or (seen_ids ids.entry) (get_or places.now k 0) 0 }
+{
+    for k in 0..places.len() {
+        keys[k] = ids.at(places[k] as usize);
+    }
+}
+
+// Packs the ids of rows in each other group column after their keys, which are those by the first.
 fn add_columns(placed: PlacedRows<'_, '_>, groups: &[u16], keys: &mut [u32])
     requires same { length keys.old ≡ length placed.places.now }
-    requires empty { (k : ℕ) → get_or keys.old k 0 ≡ 0 }
+    requires first { (k : ℕ) → k < length placed.places.now → get_or keys.old k 0
+        ≡ key_at placed.segment.now (take 1 groups.now) (get_or placed.places.now k 0) }
     requires few { ArePackable placed groups.now }
     ensures { keys.new ≡ map (key_at placed.entry.segment.now groups.now)
         placed.entry.places.now }
 {
-    for at in 0..groups.len() {
+    for at in 1..groups.len() {
         add_column(placed, groups[at], keys);
     }
 }

@@ -7,15 +7,15 @@ ghost use Rattle.column_reader.specs.Forward.{AreReadable, IsFaultAt, IsFaultIn,
 ghost use Rattle.segment_head.specs.declared.fault.EngineFault.TheVariants.{NoMemory};
 
 use crate::reading::read_column;
+use crate::rooms::IdRooms;
 use coded_columns::Ids;
 use outside::Shelf;
 use segment_head::{EngineFault, Head};
-use std::alloc::Global;
 
 /// The ids of the columns that are named, by the numbers of their fields: the forward section of
 /// each is read once, and nothing else.
 pub fn read_columns<S: Shelf>(
-    alloc: Global,
+    rooms: &mut IdRooms,
     shelf: &mut S,
     head: &Head,
     named: &[bool],
@@ -30,9 +30,9 @@ pub fn read_columns<S: Shelf>(
         (λ _. LogsColumns head.now named.now (length named.now)) (LogsSome head.now named.now)
         (seen S.Shelf shelf.old) (seen S.Shelf shelf.new) }
 {
-    let mut all = Vec::with_capacity(alloc, named.len())?;
+    let mut all = Vec::with_capacity(rooms.alloc(), named.len())?;
     for column in 0..named.len() {
-        let ids = match read_named(alloc, shelf, head, column as u16, named[column]) {
+        let ids = match read_named(rooms, shelf, head, column as u16, named[column]) {
             Ok(ids) => ids,
             Err(fault) => return Err(fault),
         };
@@ -54,7 +54,7 @@ pub fn keep(all: &mut Vec<Option<Ids>>, ids: Option<Ids>) -> Result<(), EngineFa
 
 // The ids of a column, if it is named.
 fn read_named<S: Shelf>(
-    alloc: Global,
+    rooms: &mut IdRooms,
     shelf: &mut S,
     head: &Head,
     column: u16,
@@ -70,7 +70,7 @@ fn read_named<S: Shelf>(
     if !is_named {
         return Ok(None);
     }
-    match read_column(alloc, shelf, head, column) {
+    match read_column(rooms, shelf, head, column) {
         Ok(ids) => Ok(Some(ids)),
         Err(fault) => Err(fault),
     }

@@ -6,6 +6,8 @@ mod columns;
 mod fault;
 mod picking;
 mod reading;
+mod rooms;
 
 pub use columns::read_columns;
 pub use picking::pick_columns;
+pub use rooms::IdRooms;

@@ -14,6 +14,7 @@ ghost use Rattle.column_reader.specs.Forward.{AreIdsOf, HasIds, IsReadable, Logs
 ghost use Rattle.segment_head.specs.declared.fault.EngineFault.TheVariants.{NotASegment};
 
 use crate::fault::of_column;
+use crate::rooms::IdRooms;
 use bit_column::{ColumnFault, IdRange, Width, append_narrow, append_range, width_for};
 use coded_columns::{IdRoom, Ids};
 use outside::{Place, Shelf};
@@ -28,7 +29,7 @@ const BLOCK: u32 = 8192;
 /// The ids of the rows in a column of a segment: its forward section is read, each byte once, and
 /// nothing else.
 pub fn read_column<S: Shelf>(
-    alloc: Global,
+    rooms: &mut IdRooms,
     shelf: &mut S,
     head: &Head,
     column: u16,
@@ -46,13 +47,13 @@ pub fn read_column<S: Shelf>(
         unreachable!();
     };
     let count = head.dictionary(column).count();
-    read_ids(alloc, shelf, place, count, head.rows(), column)
+    read_ids(rooms, shelf, place, count, head.rows(), column)
 }
 
 // The ids of the rows in a column of so many values: its forward section is read, each byte once,
 // and nothing else.
 fn read_ids<S: Shelf>(
-    alloc: Global,
+    rooms: &mut IdRooms,
     shelf: &mut S,
     place: &Place,
     count: u32,
@@ -76,8 +77,9 @@ fn read_ids<S: Shelf>(
         (seen S.Shelf shelf.old) (seen S.Shelf shelf.new) }
 {
     let width = width_for(count);
+    let alloc = rooms.alloc();
     let mut buffer = Vec::new(alloc);
-    let mut room = IdRoom::for_values(alloc, count, rows as usize)?;
+    let mut room = rooms.room_for(column, count, rows as usize)?;
     for at in 0..rows / BLOCK + 1 {
         let from = at * BLOCK;
         let to = block_end(from, rows);

@@ -1,5 +1,5 @@
 -- Sets of documents that are kept as runs or as words.
-use Rattle.std.proofs.Common.{◌≡◌, ◌∙◌, ℕ, ◌<◌, ◌≤◌, ◌^◌, Bool, true, false, ◌||◌, List, All, length, refl, sym, ap, ap₂, subst}
+use Rattle.std.proofs.Common.{◌≡◌, ◌∙◌, ℕ, ◌<◌, ◌≤◌, ◌^◌, Bool, true, false, ◌&&◌, ◌||◌, List, All, length, refl, sym, ap, ap₂, subst}
 use Rattle.std.specs.List.Sorted.{IsStrictlyIncreasing}
 use Rattle.doc_lists.specs.Docs.{docs_of, has_doc}
 use Rattle.doc_lists.specs.Kept.{IsKept, docs_kept}
@@ -50,3 +50,13 @@ or_swap true true = refl
 or_swap true false = refl
 or_swap false true = refl
 or_swap false false = refl
+
+-- the documents of a list that are marked are those of two sets
+pub looked_those : (list a slice words b both found : List ℕ) → list ≡ a → slice ≡ words → marked_docs words ≡ b → found ≡ both → AreThose (λ doc. has_doc list doc && is_marked slice doc) both
+    → AreThose (λ doc. has_doc a doc && has_doc b doc) found
+looked_those list a slice words b both found one same other is are = subst (AreThose (λ doc. has_doc a doc && has_doc b doc)) (sym is) (record {
+  ascend = are.ascend;
+  those = λ doc.
+      are.those doc
+      ∙ ap₂ (λ x y. x && y) (ap (λ xs. has_doc xs doc) one) (ap (λ ws. is_marked ws doc) same ∙ sym (marked_has words doc) ∙ ap (λ xs. has_doc xs doc) other);
+})

@@ -1,8 +1,9 @@
 -- Marks of documents: words of 64 bits, with a bit for each document.
-use Rattle.std.specs.Prelude.{◌≡◌, ◌≤◌, ℕ, Bool, ◌*◌, ◌/◌, ◌%◌, ◌^◌, ◌||◌, nat_eq, false, List, length, get_or}
+use Rattle.std.specs.Prelude.{◌≡◌, ◌≤◌, ℕ, Bool, ◌*◌, ◌/◌, ◌%◌, ◌^◌, ◌||◌, ◌<◌, nat_eq, false, List, length, get_or}
 use Rattle.std.specs.Int.{bit_at}
 use Rattle.std.specs.List.{filter, range_with_len}
 use Rattle.doc_lists.specs.Docs.{has_doc}
+use Rattle.doc_lists.specs.Sets.{Swept}
 
 -- whether a bit of a word is set
 abbrev pub has_bit : ℕ → ℕ → Bool
@@ -29,3 +30,10 @@ Marked docs old new = (doc : ℕ) → is_marked new doc ≡ is_marked old doc ||
 pub record AreMarksOf (test : ℕ → Bool) (marks : List ℕ) : Type 0 where
   pub at_most : length marks ≤ 2 ^ 26
   pub those : (doc : ℕ) → is_marked marks doc ≡ test doc
+
+-- a list that was swept up to a document is swept up to another, where the test holds just of the
+-- documents that are marked
+abbrev pub SweepsMarks : ℕ → ℕ → List ℕ → List ℕ → List ℕ → Type 0
+SweepsMarks first end marks old new =
+    (test : ℕ → Bool) → Swept test first old → ((doc : ℕ) → first ≤ doc → doc < end
+    → test doc ≡ is_marked marks doc) → Swept test end new

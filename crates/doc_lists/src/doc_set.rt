@@ -1,5 +1,5 @@
 //! Sets of documents, as runs or with a bit for each document.
-ghost use Rattle.std.specs.Prelude.{◌≡◌, ◌<◌, ◌+◌, ◌&&◌, ◌||◌, All, not, length, IfOk};
+ghost use Rattle.std.specs.Prelude.{◌≡◌, ◌<◌, ◌+◌, ◌&&◌, ◌||◌, [], All, not, true, length, IfOk, IfSome};
 ghost use Rattle.std.specs.List.Sorted.{IsStrictlyIncreasing};
 ghost use Rattle.doc_lists.specs.Docs.{has_doc};
 ghost use Rattle.doc_lists.specs.Marks.{AreMarksOf};
@@ -9,6 +9,12 @@ use crate::marks::{add_marks, docs_marked, keep_both, marks_of_docs, marks_of_ru
 use crate::{DocList, NoMemory, sets};
 use std::alloc::Global;
 use std::marker::Model;
+
+// Two lists are met run by run where one of them has so few runs, and else word by word.
+const FEW_RUNS: usize = 1024;
+
+// So few documents of a list are looked at one by one in the words that it is met with.
+const FEW_DOCS: usize = 32_768;
 
 /// A set of documents, which contracts see as a list of them, ascending and without repeats. It is
 /// kept as runs, or as words with a bit for each document, which two sets are met by without a look
@@ -69,6 +75,26 @@ impl DocSet {
         }
     }
 
+    // The documents as a list of its own.
+    fn listed(&self, alloc: Global) -> Result<DocList, NoMemory>
+        ensures { IfOk result (λ docs. docs ≡ self.now) }
+    {
+        match &self.kept {
+            Kept::Runs(list) => list.copied(alloc),
+            Kept::Words(marks) => docs_marked(alloc, marks.as_slice()),
+        }
+    }
+
+    // Whether it is a list of no documents.
+    fn has_none(&self) -> bool
+        ensures { result ≡ true → self.now ≡ [] }
+    {
+        match &self.kept {
+            Kept::Runs(list) => list.is_empty(),
+            Kept::Words(_) => false,
+        }
+    }
+
     // A set ascends.
     fn ascends(&self)
         ensures { IsStrictlyIncreasing self.now }
@@ -98,7 +124,15 @@ pub fn meet(alloc: Global, a: &DocSet, b: &DocSet) -> Result<DocSet, NoMemory>
     ensures { IfOk result (AreThose (λ doc. has_doc a.now doc && has_doc b.now doc)) }
 {
     if let (Kept::Runs(ours), Kept::Runs(theirs)) = (&a.kept, &b.kept) {
-        return Ok(DocSet::of_list(sets::meet(alloc, ours, theirs)?));
+        if ours.runs().len().min(theirs.runs().len()) <= FEW_RUNS {
+            return Ok(DocSet::of_list(sets::meet(alloc, ours, theirs)?));
+        }
+    }
+    if let Some(both) = met_by_one(alloc, a, b)? {
+        return Ok(both);
+    }
+    if let Some(both) = met_by_one(alloc, b, a)? {
+        return Ok(both);
     }
     let mut marks = a.words(alloc)?;
     let others = b.words(alloc)?;
@@ -106,6 +140,20 @@ pub fn meet(alloc: Global, a: &DocSet, b: &DocSet) -> Result<DocSet, NoMemory>
     Ok(DocSet {
         kept: Kept::Words(marks),
     })
+}
+
+// The documents that are in both sets, where the first is a list of few and the second is words.
+fn met_by_one(alloc: Global, a: &DocSet, b: &DocSet) -> Result<Option<DocSet>, NoMemory>
+    ensures { IfOk result (λ found. IfSome found
+        (AreThose (λ doc. has_doc a.now doc && has_doc b.now doc))) }
+{
+    match (&a.kept, &b.kept) {
+        (Kept::Runs(list), Kept::Words(marks)) if list.len() <= FEW_DOCS => {
+            let both = sets::marked(alloc, list, marks.as_slice())?;
+            Ok(Some(DocSet::of_list(both)))
+        }
+        _ => Ok(None),
+    }
 }
 
 /// The documents that are in one of the sets or in both.
@@ -153,6 +201,10 @@ pub fn parted(alloc: Global, docs: &DocSet, others: &DocSet) -> Result<(DocList,
     ensures count { IfOk result (λ parts. length parts.0 + length parts.1 ≡ length docs.now) }
 {
     docs.ascends();
+    if others.has_none() {
+        let all = docs.listed(alloc)?;
+        return Ok((DocList::new(alloc), all));
+    }
     let both = meet(alloc, docs, others)?;
     let alone = without(alloc, docs, others)?;
     let both = both.into_list(alloc)?;

@@ -85,6 +85,17 @@ fn mark_run(run: Run, marks: &mut [u64])
     }
 }
 
+/// Whether a document is marked.
+#[inline(always)]
+pub fn is_marked(marks: &[u64], doc: u64) -> bool
+    ensures { result ≡ is_marked marks.now doc }
+{
+    match marks.get((doc / MARKS) as usize) {
+        Some(word) => (*word >> (doc % MARKS)) & 1 == 1,
+        None => false,
+    }
+}
+
 /// Leaves the marks that others have too.
 pub fn keep_both(marks: &mut Vec<u64>, others: &[u64])
     ensures size { length marks.new.items ≤ length marks.old.items }

@@ -1,9 +1,11 @@
 //! The documents that two lists have in common or apart.
 ghost use Rattle.std.specs.Prelude.{◌≡◌, ◌≤◌, ◌<◌, ◌+◌, ◌&&◌, ◌||◌, ◌^◌, ◌⊎◌, ℕ, Bool, not, nat_le, All, drop, take, get_or, length, IfOk, OnOk};
 ghost use Rattle.doc_lists.specs.Docs.{Apart, has_doc, next_from};
+ghost use Rattle.doc_lists.specs.Marks.{SweepsMarks, is_marked};
 ghost use Rattle.doc_lists.specs.Sets.{RemainFrom, AreThose, IsSooner, SameFrom, Swept, SweepsRuns, ends_before, first_in, in_runs};
 
 use crate::doc_list::next_after;
+use crate::marks::is_marked;
 use crate::{DocList, NoMemory, Run};
 use std::alloc::Global;
 
@@ -35,6 +37,23 @@ pub fn meet(alloc: Global, a: &DocList, b: &DocList) -> Result<DocList, NoMemory
             theirs = without_first(theirs, end);
             start = end;
         }
+    }
+    Ok(docs)
+}
+
+/// The documents of a list that are marked, each of which is looked at.
+pub fn marked(alloc: Global, a: &DocList, marks: &[u64]) -> Result<DocList, NoMemory>
+    ensures { IfOk result (AreThose (λ doc. has_doc a.now doc && is_marked marks.now doc)) }
+{
+    let mut docs = DocList::new(alloc);
+    let mut ours = a.runs();
+    let mut start = 0u64;
+    while !ours.is_empty() {
+        let first = start.max(ours[0].first as u64);
+        let end = ours[0].last as u64 + 1;
+        push_marked_from(&mut docs, first, end, marks)?;
+        ours = without_first(ours, end);
+        start = end;
     }
     Ok(docs)
 }
@@ -244,6 +263,21 @@ fn push_from(docs: &mut DocList, start: u64, first: u64, end: u64) -> Result<(),
         last: (end - 1) as u32,
     };
     docs.push_run(run)
+}
+
+// Adds the documents from one up to another that are marked.
+fn push_marked_from(docs: &mut DocList, first: u64, end: u64, marks: &[u64]) -> Result<(), NoMemory>
+    requires order { first ≤ end }
+    requires within { end ≤ 2 ^ 32 }
+    requires above { All (λ doc. doc < first) docs.old }
+    ensures { OnOk result (SweepsMarks first end marks.now docs.old docs.new) }
+{
+    for doc in first..end {
+        if is_marked(marks, doc) {
+            docs.push(doc as u32)?;
+        }
+    }
+    Ok(())
 }
 
 // Adds the documents of runs from one of them on, and says up to where they are.

@@ -109,10 +109,10 @@ abbrev is_value : List Field → List ℕ → ℕ → Value → Bool
 is_value fields groups place value = is_typed (option_and_then (kind_at fields) (slice_get groups place)) value
 
 module _ (fields : List Field) (groups : List ℕ) (aggs : List Agg) where
-  column_at_place : (c : ℕ) → list_any (λ g. g == c) groups ≡ true → slice_get groups (position_or_len (λ g. g == c) groups) ≡ Some c
+  pub column_at_place : (c : ℕ) → list_any (λ g. g == c) groups ≡ true → slice_get groups (position_or_len (λ g. g == c) groups) ≡ Some c
   column_at_place c column = stands (λ g. g == c) groups c (λ y e. eqb-true y c e) column
 
-  agg_at_place : (a : Agg) → list_any (same_agg a) aggs ≡ true → slice_get aggs (position_or_len (same_agg a) aggs) ≡ Some a
+  pub agg_at_place : (a : Agg) → list_any (same_agg a) aggs ≡ true → slice_get aggs (position_or_len (same_agg a) aggs) ≡ Some a
   agg_at_place a has = stands (same_agg a) aggs a (λ y e. sym (agg_is a y e)) has
 
   -- a test of a group column or of an aggregate of the query has a place
@@ -178,31 +178,32 @@ module _ (fields : List Field) (names : List NameAt) (b : Bound) (columns : b.gr
   grouped_by None some = refl
   grouped_by (Some h) some = let lt : 0 < length b.groups = some refl in search (rules, tests)
 
-module _ (table : Table) (any_table : Bool) (q : Query) (b : Bound) (is : bound table any_table q ≡ Ok b) (spelled : Spelled q) where
+module _ (table : Table) (any_table : Bool) (q : Query) (b : Bound) (is : bound table any_table q ≡ Ok b) where
   abbrev fields : List Field
   fields = table.schema.fields
 
   own : (query_finding table any_table q ≡ None) × (bound_of fields q ≡ b)
   own = answered (query_finding table any_table q) (bound_of fields q) b is
 
-  typed : having_finding (group_test_finding fields) q.having ≡ None
+  pub typed : having_finding (group_test_finding fields) q.having ≡ None
   typed =
       let names = first_none (names_finding fields q) _ (rest_none (table_finding table any_table q) _ own.0) in
       let after_items = rest_none (first_in (λ i. term_finding fields i.term) q.items) _ names in
       let after_where = rest_none (where_finding fields q.condition) _ after_items in
       first_none (having_finding (group_test_finding fields) q.having) _ (rest_none (first_in (column_finding fields) q.groups) _ after_where)
 
-  grouped : having_finding (test_grouped q.groups) q.having ≡ None
+  pub grouped : having_finding (test_grouped q.groups) q.having ≡ None
   grouped = first_none (having_finding (test_grouped q.groups) q.having) _ (rest_none (first_in (λ i. term_grouped q.groups i.term) q.items) _ (passes table any_table q b is))
 
-  pub asked_places : if_asked (having_places b.groups b.aggs) b.having ≡ true
-  asked_places = subst (λ x. if_asked (having_places x.groups x.aggs) x.having ≡ true) own.1
-      (places_by fields q.groups (bound_of fields q) refl q.having grouped
-      (has_all (aggs_from [] (terms_of fields q).items) (terms_of fields q).having (map (λ k. k.term) (terms_of fields q).keys)))
+  module _ (spelled : Spelled q) where
+    pub asked_places : if_asked (having_places b.groups b.aggs) b.having ≡ true
+    asked_places = subst (λ x. if_asked (having_places x.groups x.aggs) x.having ≡ true) own.1
+        (places_by fields q.groups (bound_of fields q) refl q.having grouped
+        (has_all (aggs_from [] (terms_of fields q).items) (terms_of fields q).having (map (λ k. k.term) (terms_of fields q).keys)))
 
-  pub asked_types : if_asked (having_fits fields b.groups) b.having ≡ true
-  asked_types = subst (λ x. if_asked (having_fits fields x.groups) x.having ≡ true) own.1 (types_by fields q.groups (bound_of fields q) refl q.having typed grouped)
+    pub asked_types : if_asked (having_fits fields b.groups) b.having ≡ true
+    asked_types = subst (λ x. if_asked (having_fits fields x.groups) x.having ≡ true) own.1 (types_by fields q.groups (bound_of fields q) refl q.having typed grouped)
 
-  pub asked_groups : if_asked (λ having. nat_lt 0 (length b.groups)) b.having ≡ true
-  asked_groups = subst (λ x. if_asked (λ having. nat_lt 0 (length x.groups)) x.having ≡ true) own.1
-      (grouped_by fields q.groups (bound_of fields q) refl q.having (λ e. some_columns fields q.groups (spelled_groups _ q spelled.2 e)))
+    pub asked_groups : if_asked (λ having. nat_lt 0 (length b.groups)) b.having ≡ true
+    asked_groups = subst (λ x. if_asked (λ having. nat_lt 0 (length x.groups)) x.having ≡ true) own.1
+        (grouped_by fields q.groups (bound_of fields q) refl q.having (λ e. some_columns fields q.groups (spelled_groups _ q spelled.2 e)))

@@ -2,6 +2,7 @@ pub mod WideLemmas
 mod FirstLemmas
 pub mod HavingLemmas
 mod AskedLemmas
+mod WrittenLemmas
 mod Joined
 pub mod JointLemmas
 mod OnceLemmas

@@ -1,6 +1,6 @@
 //! What holds of every bound query. Each law is the contract of a function that does nothing.
 
-ghost use Rattle.query_bind.specs.Places.{ItemsAreTerms, KeysAreTerms};
+ghost use Rattle.query_bind.specs.Places.{ItemsAreTerms, KeysAreTerms, HavingAsksWritten};
 ghost use Rattle.query_bind.specs.Once.{GroupsStandOnce, GroupsAreNamed, AggsStandOnce, AggsAreWritten};
 ghost use Rattle.query_bind.specs.Firsts.{FewGroups, FewAggs, FewKeys, FirstGroup, FirstAgg, FirstKey};
 
@@ -12,6 +12,12 @@ pub fn items_law()
 /// At the place of each key stands what the key stands for.
 pub fn keys_law()
     ensures { KeysAreTerms }
+{}
+
+/// HAVING tests what is written, by the comparisons and with the literals that are written, joined
+/// as they are written.
+pub fn having_law()
+    ensures { HavingAsksWritten }
 {}
 
 /// No group column is too many where there are 8 at most; else it is the first that makes them

@@ -11,3 +11,10 @@ mod StatedLemmas
 pub mod OneReads
 pub mod PlanLemmas
 mod EmptyLemmas
+mod AfterHead
+mod IdsFound
+mod IdsHeads
+mod IdsReads
+mod IdsAlike
+mod IdsLemmas
+mod IdsTest

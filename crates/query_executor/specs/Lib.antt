@@ -5,3 +5,5 @@ pub mod Explained
 pub mod Stated
 pub mod Passes
 pub mod Replies
+pub mod ByIds
+pub mod Alike

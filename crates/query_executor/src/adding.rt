@@ -13,14 +13,13 @@ use group_table::{GroupTable, SlotPool};
 use outside::Shelf;
 use segment_head::{EngineFault, Head};
 use segment_plan::{SegmentPlan, empty_law, head_tells_law, plan, plan_over_law, pruned_law};
-use segment_scan::{image_law, index_law, scan_segment};
+use segment_scan::{IdRooms, image_law, index_law, scan_segment};
 use star_answer::{answer_segment, docs_bound_law};
-use std::alloc::Global;
 use table_schema::{BoundQuery, Table};
 
 /// Adds the rows of a segment whose dictionaries are loaded, as its plan says.
 pub(crate) fn add_planned<S: Shelf>(
-    alloc: Global,
+    rooms: &mut IdRooms,
     shelf: &mut S,
     table: &Table,
     head: &Head,
@@ -47,9 +46,10 @@ pub(crate) fn add_planned<S: Shelf>(
     plan_over_law();
     image_law();
     index_law();
+    let alloc = rooms.alloc();
     match plan(alloc, query, table, head)? {
         SegmentPlan::Scan(plan) => match scan_segment(
-            alloc, shelf, head, table, query, &plan, groups, pool,
+            rooms, shelf, head, table, query, &plan, groups, pool,
         ) {
             Ok(docs) => Ok(Scanned {
                 plan: SegmentPlan::Scan(plan),

@@ -1,4 +1,5 @@
-//! Laws of what is told of a query. Each is the contract of a function that does nothing.
+//! Laws of what is told of a query, and of a scan by ids. Each is the contract of a function that
+//! does nothing.
 
 ghost use Rattle.std.specs.Prelude.{◌≡◌, [], List, length};
 ghost use Rattle.values.specs.declared.value.Value.{Value};
@@ -10,8 +11,10 @@ ghost use Rattle.segment_plan.specs.declared.plans.SegmentPlan.TheVariants.{Scan
 ghost use Rattle.segment_plan.specs.Planned.{plan_over};
 ghost use Rattle.segment_plan.specs.Served.{unserved};
 ghost use Rattle.segment_reads.specs.Looked.{docs_over};
+ghost use Rattle.query_executor.specs.Alike.{IdsAreAlike};
 
-use segment_scan::served_law;
+use segment_plan::{head_tells_law, plan_over_law};
+use segment_scan::{image_law, index_law, served_law};
 
 /// Where a segment is scanned and every conjunct is served, by `Sorted` or `Inverted`, as many
 /// documents are looked at as rows hold.
@@ -21,4 +24,14 @@ pub fn docs_law()
         → docs_over query table rows ≡ length (selected query rows) }
 {
     served_law();
+}
+
+/// A scan by the ids of a column without an index is one by its values.
+pub(crate) fn ids_law()
+    ensures { IdsAreAlike }
+{
+    head_tells_law();
+    plan_over_law();
+    image_law();
+    index_law();
 }

@@ -4,6 +4,8 @@
 #![tactic(auto)]
 
 mod adding;
+mod asked;
+mod by_ids;
 mod executor;
 mod explain;
 mod fault;

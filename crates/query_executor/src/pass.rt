@@ -21,6 +21,7 @@ use group_table::{GroupTable, SlotPool, pool_for};
 use outside::Shelf;
 use segment_head::{EngineFault, Stored};
 use segment_plan::push_word;
+use segment_scan::IdRooms;
 use star_answer::docs_bound_law;
 use std::alloc::{AllocError, Global};
 use table_schema::{BoundQuery, Table};
@@ -31,6 +32,8 @@ pub struct Pass {
     pub groups: GroupTable,
     /// Where the states of the groups are.
     pub pool: SlotPool,
+    /// Where the ids of whole columns are put.
+    pub rooms: IdRooms,
     /// How many groups there may be.
     pub most: u32,
     /// Whether lines are wanted.
@@ -62,6 +65,7 @@ impl Pass {
         Ok(Pass {
             groups,
             pool,
+            rooms: IdRooms::new(alloc),
             most,
             wants_lines,
             lines,
@@ -125,7 +129,7 @@ fn pass_one<S: Shelf>(
     ensures stays { StaysIn pass.old.groups pass.old.pool pass.new.groups pass.new.pool }
 {
     let done = match add_segment(
-        alloc,
+        &mut pass.rooms,
         shelf,
         table,
         segment,

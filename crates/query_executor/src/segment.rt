@@ -6,22 +6,24 @@ ghost use Rattle.segment_reads.specs.Looked.{IsDoneIn};
 ghost use Rattle.query_executor.specs.Passes.{AddsSegment, HasRoomFor, IsQueryOf};
 
 use crate::adding::add_planned;
+use crate::by_ids::{Asked, add_by_ids};
 use crate::scanned::{Scanned, nothing};
 use eligibility::pick;
 use group_table::{GroupTable, SlotPool};
 use outside::Shelf;
 use segment_head::{EngineFault, Stored};
-use segment_opening::{load_unless_emptied, open_segment};
+use segment_opening::{Loaded, load_or_look_up, open_segment};
 use segment_plan::{SegmentPlan, empty_law, head_tells_law, plan_over_law, prune, pruned_law};
+use segment_scan::IdRooms;
 use star_answer::docs_bound_law;
-use std::alloc::Global;
 use table_schema::{BoundQuery, Table};
 
 /// Adds the rows of a segment that satisfy the filter of a query to its groups, by a star-tree
 /// where one serves the query. Of a segment that its bounds exclude no more than the front and the
-/// bounds is read. Where no value of a large dictionary satisfies a conjunct, none is loaded.
+/// bounds is read. Where no value of a large dictionary satisfies a conjunct, none is loaded; of a
+/// column that is tested alone the values are not read.
 pub(crate) fn add_segment<S: Shelf>(
-    alloc: Global,
+    rooms: &mut IdRooms,
     shelf: &mut S,
     table: &Table,
     segment: &Stored,
@@ -40,6 +42,7 @@ pub(crate) fn add_segment<S: Shelf>(
     ensures stays { StaysIn groups.old pool.old groups.new pool.new }
 {
     docs_bound_law();
+    let alloc = rooms.alloc();
     let mut head = match open_segment(alloc, shelf, table, segment) {
         Ok(head) => head,
         Err(fault) => return Err(fault),
@@ -52,12 +55,20 @@ pub(crate) fn add_segment<S: Shelf>(
         return Ok(nothing(SegmentPlan::Pruned));
     }
     let by_tree = pick(query, table.settings.trees.as_slice()).is_some();
-    let loaded = match load_unless_emptied(alloc, shelf, table, query, by_tree, &mut head) {
+    let loaded = match load_or_look_up(alloc, shelf, table, query, by_tree, &mut head) {
         Ok(loaded) => loaded,
         Err(fault) => return Err(fault),
     };
-    if !loaded {
-        return Ok(nothing(SegmentPlan::Empty));
+    match loaded {
+        Loaded::Emptied => Ok(nothing(SegmentPlan::Empty)),
+        Loaded::Wanted => add_planned(rooms, shelf, table, &head, query, groups, pool),
+        Loaded::But(found) => {
+            let asked = Asked {
+                table,
+                segment,
+                query,
+            };
+            add_by_ids(rooms, shelf, &asked, &found, &mut head, groups, pool)
+        }
     }
-    add_planned(alloc, shelf, table, &head, query, groups, pool)
 }

@@ -16,3 +16,4 @@ pub mod MadeLemmas
 pub mod RangeLemmas
 pub mod OnceReads
 pub mod MergeLemmas
+pub mod PackedLemmas

@@ -1,3 +1,4 @@
+pub mod Ids
 pub mod Fitting
 pub mod Arranging
 pub mod Sections

@@ -1,5 +1,5 @@
 -- The sections of a segment's file as they are made, a column after the other.
-use Rattle.std.specs.Prelude.{ℕ, Bool, true, false, nat_lt, List, [], ◌∷◌, ◌++◌, length, map, take, Option, Some, None}
+use Rattle.std.specs.Prelude.{◌≡◌, ℕ, Bool, true, false, nat_lt, List, [], ◌∷◌, ◌++◌, length, map, take, Option, Some, None}
 use Rattle.std.specs.List.{range_with_len}
 use Rattle.values.specs.declared.value.Value.{Value}
 use Rattle.table_schema.specs.declared.table.Table.{Table}
@@ -45,6 +45,24 @@ with_column d ids indexes made = record {
   lists = made.lists ++ only indexes.inverted (inverted (length d.values) ids);
   ranges = made.ranges ++ only indexes.ranged (ranged (length d.values) ids);
 }
+
+-- the sections with those that each column has: of one more column the bounds, the dictionary and
+-- this forward index
+abbrev pub with_plain : Distinct → List ℕ → Made → Made
+with_plain d forward made = record {
+  bounds = made.bounds ++ bounds_bytes (ends_of d.values);
+  dictionaries = made.dictionaries ++ spelling d ∷ [];
+  forwards = made.forwards ++ forward ∷ [];
+  runs = made.runs;
+  lists = made.lists;
+  ranges = made.ranges;
+}
+
+-- a column has a dictionary and a forward index alone
+pub record HasNone (indexes : Indexes) : Type 0 where
+  pub sorted : indexes.sorted ≡ false
+  pub inverted : indexes.inverted ≡ false
+  pub ranged : indexes.ranged ≡ false
 
 -- all sections in their order, with the nodes and the documents of the trees
 abbrev pub in_order : Made → List (List ℕ) → List (List ℕ) → List (List ℕ)

@@ -123,8 +123,7 @@ pub fn make_of_codes(
     requires coded { AreCoded table.now coded }
     ensures { MakesFile table.now name.now (rows_of (columns_in coded.entry)) result }
 {
-    let kept = kept_of(alloc, table, &coded)?;
-    drop(coded);
+    let kept = kept_of(alloc, table, coded)?;
     make_kept(alloc, table, name, kept)
 }
 
@@ -137,15 +136,16 @@ pub(crate) struct KeptFile {
 }
 
 // The documents of the trees are merged, and the sections of the columns are made.
-fn kept_of(alloc: Global, table: &Table, coded: &CodedColumns) -> Result<KeptFile, NoMemory>
-    requires rows { AreCoded table.now coded.now }
-    ensures { IfOk result (IsKeptFile table.now (columns_in coded.now)) }
+fn kept_of(alloc: Global, table: &Table, coded: CodedColumns<'_>) -> Result<KeptFile, NoMemory>
+    requires rows { AreCoded table.now coded }
+    ensures { IfOk result (IsKeptFile table.now (columns_in coded.entry)) }
 {
-    let order = row_order(alloc, table, coded)?;
-    let merged = merge_trees(alloc, table, coded)?;
+    let rows = coded.rows;
+    let order = row_order(alloc, table, &coded)?;
+    let merged = merge_trees(alloc, table, &coded)?;
     let sections = column_sections(alloc, table, coded, &order)?;
     Ok(KeptFile {
-        rows: coded.rows,
+        rows,
         sections,
         merged,
     })

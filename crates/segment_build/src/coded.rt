@@ -2,8 +2,8 @@
 ghost use Rattle.std.specs.Prelude.{◌≡◌};
 ghost use Rattle.segment_build.specs.Coded.{dictionary_in};
 
+use crate::ColumnIds;
 use dictionary::Dictionary;
-use row_ids::RowIds;
 
 /// A dictionary that is lent, or one of the column's own.
 #[derive(Drop)]
@@ -29,7 +29,7 @@ impl<'a> ColumnValues<'a> {
 #[derive(Drop)]
 pub struct CodedColumn<'a> {
     pub values: ColumnValues<'a>,
-    pub ids: RowIds,
+    pub ids: ColumnIds,
 }
 
 /// Rows that are kept column by column, as ids.

@@ -5,6 +5,7 @@ ghost use Rattle.value_ids.specs.Coding.{AreBelow};
 ghost use Rattle.segment_build.specs.Coded.{AreCoded, columns_in};
 ghost use Rattle.segment_build.specs.Fitting.{AreOfTable};
 
+use crate::ColumnIds;
 use crate::coded::{CodedColumn, CodedColumns, ColumnValues};
 use dictionary::Dictionary;
 use outside::NoMemory;
@@ -38,7 +39,7 @@ pub(crate) fn code_columns<'a>(
     'columns: for at in 0..fields.len() {
         let column = columns.column(at);
         let (dictionary, ids) = Dictionary::of_column(alloc, fields[at].kind, column)?;
-        let ids = RowIds::of(alloc, ids, dictionary.count())?;
+        let ids = ColumnIds::alone(RowIds::of(alloc, ids, dictionary.count())?);
         let values = ColumnValues::Own(dictionary);
         all.push(CodedColumn { values, ids })?;
     }

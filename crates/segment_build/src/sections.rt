@@ -1,5 +1,5 @@
 //! The sections of a segment's file are made, a column after the other.
-ghost use Rattle.std.specs.Prelude.{◌≡◌, ◌<◌, ◌≤◌, ◌++◌, true, [], length, IfOk, OnOk};
+ghost use Rattle.std.specs.Prelude.{◌≡◌, ◌<◌, ◌≤◌, ◌++◌, true, [], length, IfErr, IfOk, OnOk};
 ghost use Rattle.std.specs.List.Sorted.{IsNonDecreasing};
 ghost use Rattle.value_ids.specs.Coding.{AreBelow};
 ghost use Rattle.dictionary.specs.Spelling.{spelling};
@@ -7,12 +7,13 @@ ghost use Rattle.bit_column.specs.Column.{spelled, width_of};
 ghost use Rattle.bit_column.specs.Postings.{inverted, ranged};
 ghost use Rattle.bit_column.specs.SortedRuns.{sorted_runs};
 ghost use Rattle.segment_build.specs.Made.{each_bytes, section_bytes};
-ghost use Rattle.segment_build.specs.Sections.{in_order, made_of, only, with_column};
+ghost use Rattle.segment_build.specs.Sections.{HasNone, in_order, made_of, only, with_column, with_plain};
 ghost use Rattle.values.specs.Columns.{rows_of};
 ghost use Rattle.segment_file.specs.Ordered.{ordered};
 ghost use Rattle.segment_build.specs.Arranging.{Orders, arranged, places_in};
 ghost use Rattle.segment_build.specs.Coded.{AreCoded, MayPush, columns_in, dictionary_of_ids};
 
+use crate::ColumnIds;
 use crate::coded::{CodedColumn, CodedColumns};
 use crate::coding::RowOrder;
 use crate::grown::Grown;
@@ -22,7 +23,6 @@ use bit_column::width_for;
 use dictionary::Dictionary;
 use inverted_lists::{write_inverted, write_ranged, write_sorted};
 use outside::{NoMemory, Seq};
-use row_ids::RowIds;
 use segment_file::push_ends;
 use std::alloc::Global;
 use std::marker::Model;
@@ -105,6 +105,23 @@ impl Sections {
         Ok(())
     }
 
+    // Adds those that each column has: its bounds, its dictionary and its forward index.
+    fn push_plain(
+        &mut self,
+        alloc: Global,
+        dictionary: &Dictionary,
+        forward: Vec<u8>,
+    ) -> Result<(), NoMemory>
+        ensures { OnOk result (self.new ≡ with_plain dictionary.now forward.items self.old) }
+    {
+        push_ends(alloc, dictionary, &mut self.bounds)?;
+        self.dictionaries
+            .push(dictionary_section(alloc, dictionary)?)?;
+        self.forwards
+            .push(MadeSection::Stands(Seq::from_vec(forward)))?;
+        Ok(())
+    }
+
     /// All of them with those of the star-trees, in the order of the file.
     pub(crate) fn into_list(self, alloc: Global, trees: Grown) -> Result<Vec<MadeSection>, NoMemory>
         ensures { IfOk result (λ all. each_bytes all.items
@@ -141,62 +158,98 @@ impl Sections {
     }
 }
 
-/// The sections of the columns, by their kinds.
+/// The sections of the columns, by their kinds. Each column is let go when its sections are made.
 pub(crate) fn column_sections(
     alloc: Global,
     table: &Table,
-    coded: &CodedColumns,
+    coded: CodedColumns<'_>,
     order: &RowOrder,
 ) -> Result<Sections, NoMemory>
-    requires rows { AreCoded table.now coded.now }
-    requires order { Orders table.now.settings.sorted (rows_of (columns_in coded.now)) order.now }
+    requires rows { AreCoded table.now coded }
+    requires order { Orders table.now.settings.sorted (rows_of (columns_in coded)) order.now }
     ensures { IfOk result (λ made. made ≡ made_of table.now
-        (ordered table.now.settings.sorted (rows_of (columns_in coded.now)))
+        (ordered table.now.settings.sorted (rows_of (columns_in coded.entry)))
         (length table.now.schema.fields)) }
 {
     let count = table.schema.fields.len();
     let mut sections = Sections::with_capacity(alloc, count)?;
     let mut ids = Vec::new(alloc);
+    let mut left = coded.columns.into_iter();
     'columns: for at in 0..count {
+        let Some(column) = left.next() else {
+            unreachable!()
+        };
         let indexes = indexes_at(&table.settings, at);
-        push_column(
-            alloc,
-            &coded.columns[at],
-            order,
-            indexes,
-            &mut ids,
-            &mut sections,
-        )?;
+        push_column(alloc, column, order, indexes, &mut ids, &mut sections)?;
     }
     Ok(sections)
 }
 
-// Adds the sections of a column. Its ids are put in the order of the rows into a list that is used
-// again.
+// Adds the sections of a column. Where its ids are not packed as its forward index has them, they
+// are put in the order of the rows into a list that is used again.
 fn push_column(
     alloc: Global,
-    column: &CodedColumn,
+    column: CodedColumn<'_>,
     order: &RowOrder,
     indexes: Indexes,
-    ids: &mut Vec<u32>,
+    list: &mut Vec<u32>,
     sections: &mut Sections,
 ) -> Result<(), NoMemory>
-    requires { MayPush column.now order.now indexes }
-    ensures { OnOk result (sections.new ≡ with_column (dictionary_of_ids column.now)
-        (arranged 0 order.now column.now.ids) indexes sections.old) }
+    requires { MayPush column order.now indexes }
+    ensures { OnOk result (sections.new ≡ with_column (dictionary_of_ids column.entry)
+        (arranged 0 order.now column.entry.ids) indexes sections.old) }
 {
-    put_ordered(&column.ids, order, ids)?;
-    sections.push(alloc, column.values.dictionary(), ids.as_slice(), indexes)
+    let CodedColumn { values, ids } = column;
+    let dictionary = values.dictionary();
+    match plain_section(ids, dictionary.count(), order, indexes) {
+        Ok(forward) => sections.push_plain(alloc, dictionary, forward),
+        Err(ids) => {
+            put_ordered(alloc, &ids, order, list)?;
+            sections.push(alloc, dictionary, list.as_slice(), indexes)
+        }
+    }
+}
+
+// The forward index of ids that are packed as it has them, where a column of so many values has no
+// other index; else the ids again.
+fn plain_section(
+    ids: ColumnIds,
+    count: u32,
+    order: &RowOrder,
+    indexes: Indexes,
+) -> Result<Vec<u8>, ColumnIds>
+    ensures section { IfOk result (λ bytes. bytes.items
+        ≡ spelled (width_of count) (arranged 0 order.now ids)) }
+    ensures plain { IfOk result (λ _. HasNone indexes) }
+    ensures same { IfErr result (λ same. same ≡ ids) }
+{
+    match order {
+        RowOrder::AsGiven => {
+            if indexes.sorted || indexes.inverted || indexes.ranged {
+                return Err(ids);
+            }
+            match ids.into_section(width_for(count)) {
+                Ok(bytes) => Ok(bytes),
+                Err(ids) => Err(ids),
+            }
+        }
+        RowOrder::ByPlaces(_) => Err(ids),
+    }
 }
 
 // Puts the ids of a column in the order of the rows into a list, in place of what it has.
-fn put_ordered(column: &RowIds, order: &RowOrder, ids: &mut Vec<u32>) -> Result<(), NoMemory>
+fn put_ordered(
+    alloc: Global,
+    column: &ColumnIds,
+    order: &RowOrder,
+    list: &mut Vec<u32>,
+) -> Result<(), NoMemory>
     requires { AreBelow (length column.now) (places_in order.now) }
-    ensures { OnOk result (ids.new.items ≡ arranged 0 order.now column.now) }
+    ensures { OnOk result (list.new.items ≡ arranged 0 order.now column.now) }
 {
     match order {
-        RowOrder::AsGiven => column.put_all(ids),
-        RowOrder::ByPlaces(places) => column.put_at(places.as_slice(), ids),
+        RowOrder::AsGiven => column.put_all(list),
+        RowOrder::ByPlaces(places) => column.put_at(alloc, places.as_slice(), list),
     }
 }
 

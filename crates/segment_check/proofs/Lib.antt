@@ -13,3 +13,4 @@ pub mod ImageOrPart
 pub mod Finds
 pub mod SpelledText
 pub mod Once
+pub mod PackedLemmas

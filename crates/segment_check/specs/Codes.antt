@@ -1,7 +1,8 @@
 -- The columns of a file as ids (inside the crate alone).
-use Rattle.std.specs.Prelude.{◌≡◌, ◌≤◌, ◌<◌, ℕ, Bool, true, false, List, get_or, length, slice_get, Some, IfSome, Result, IfErr, IfOk, IsErrOf, Vec}
+use Rattle.std.specs.Prelude.{◌≡◌, ◌≤◌, ◌<◌, ℕ, Bool, true, false, List, get_or, length, slice_get, Option, Some, IfSome, Result, IfErr, IfOk, IsErrOf, Vec}
 use Rattle.std.specs.Global.{Global}
 use Rattle.std.specs.List.{Contains}
+use Rattle.outside.specs.Files.{Files}
 use Rattle.outside.specs.Seen as outside
 use Rattle.outside.specs.Seen.{OnlyReads}
 use Rattle.data_types.specs.declared.kind.FieldKind.{FieldKind}
@@ -35,6 +36,25 @@ pub record CodesRows (kind : FieldKind) (d : Distinct) (ids : List ℕ) (c : Cod
   pub coding : IsCoding c
   pub kind_is : (dictionary_of_ids c).kind ≡ kind
   pub values : row_values c ≡ values_at d.values ids
+
+-- the ids of a column's rows, each of one of its values, and where files are told, those in its
+-- forward index
+pub record AreIdsOf (held : Option Files) (head : Seen) (column : ℕ) (d : Distinct) (ids : List ℕ)
+    : Type 0 where
+  pub count : length ids ≡ head.rows
+  pub below : AreBelow (length d.values) ids
+  pub are : IsColumn held head column d (values_at d.values ids)
+
+-- they were read, or its forward index has no such ids
+pub record ReadsIds (head : Seen) (column : ℕ) (old new : outside.Seen)
+    (result : Result (List ℕ) HeadFault) : Type 0 where
+  pub ids : IfOk result (λ ids. (d : Distinct)
+      → slice_get head.dictionaries column ≡ Some (Some d) → AreIdsOf old.held head column d ids)
+  pub refused : IfErr result (λ fault. (p : Part) → fault ≡ NotASegment p
+      → (p ≡ parts.Forward column) × ((d : Distinct)
+      → slice_get head.dictionaries column ≡ Some (Some d)
+      → IfSome old.held (λ files. ¬ HasIdsOf files head column (length d.values))))
+  pub only_reads : OnlyReads (IsErrOf result ReadFault) old new
 
 -- a column was read so
 pub record ReadsCodes (head : Seen) (kind : FieldKind) (column : ℕ) (old new : outside.Seen)

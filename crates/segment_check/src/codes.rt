@@ -13,14 +13,14 @@ ghost use Rattle.segment_head.specs.Heads.{AreIn, IsLoaded, place_in};
 ghost use Rattle.segment_check.specs.Codes.{AreMarked, CodesRows, HaveAll, ReadsAllCodes, ReadsCodes};
 ghost use Rattle.segment_check.specs.Reading.{IsSomeHead, LogsColumn};
 
-use crate::coded::read_coded_column;
 use crate::columns::column_of;
 use crate::head::FileHead;
+use crate::packed::read_packed_column;
 use data_types::FieldKind;
 use dictionary::Dictionary;
 use outside::{NoMemory, Shelf};
 use row_ids::RowIds;
-use segment_build::{CodedColumn, CodedColumns, ColumnValues};
+use segment_build::{CodedColumn, CodedColumns, ColumnIds, ColumnValues, PackedIds};
 use segment_file::HeadFault;
 use segment_head::Head;
 use std::alloc::Global;
@@ -42,8 +42,10 @@ pub(crate) fn read_codes<'a, S: Shelf>(
 {
     let fields = table.schema.fields.as_slice();
     let mut columns = Vec::with_capacity(alloc, fields.len())?;
+    let mut list = Vec::new(alloc);
     'columns: for at in 0..fields.len() {
-        match read_column_codes(alloc, shelf, fields[at].kind, &read.head, at as u16) {
+        let kind = fields[at].kind;
+        match read_column_codes(alloc, shelf, kind, &read.head, at as u16, &mut list) {
             Ok(column) => keep_codes(column, &mut columns)?,
             Err(fault) => return Err(fault),
         }
@@ -62,13 +64,14 @@ fn keep_codes<'a>(
     Ok(())
 }
 
-// The values and the ids of the rows in a column.
+// The values and the ids of the rows in a column. The ids are put into a list that is used again.
 fn read_column_codes<'a, S: Shelf>(
     alloc: Global,
     shelf: &mut S,
     kind: FieldKind,
     head: &'a Head,
     column: u16,
+    list: &mut Vec<u32>,
 ) -> Result<CodedColumn<'a>, HeadFault>
     requires loaded { IsLoaded head.now column }
     requires placed { IsSome (place_in head.now.sections (part.Forward column)) }
@@ -81,45 +84,51 @@ fn read_column_codes<'a, S: Shelf>(
         → LogsFile file (S.log shelf.old) (S.log shelf.new) }
     ensures once { LogsColumn head.now column (S.log shelf.old) (S.log shelf.new) }
 {
-    match read_coded_column(alloc, shelf, head, column) {
-        Ok(read) => Ok(codes_of(alloc, kind, read.dictionary, read.ids)?),
+    match read_packed_column(alloc, shelf, head, column, list) {
+        Ok(ids) => {
+            let dictionary = head.dictionary(column);
+            Ok(codes_of(alloc, kind, dictionary, ids, list.as_slice())?)
+        }
         Err(fault) => Err(fault),
     }
 }
 
-// The column of rows with these ids.
+// The column of rows with these ids, which are also in a list.
 fn codes_of<'a>(
     alloc: Global,
     kind: FieldKind,
     dictionary: &'a Dictionary,
-    ids: RowIds,
+    ids: PackedIds,
+    list: &[u32],
 ) -> Result<CodedColumn<'a>, NoMemory>
     requires kind { dictionary.now.kind ≡ kind }
+    requires list { list.now ≡ ids }
     requires below { AreBelow (length dictionary.now.values) ids }
     requires at_most { length ids ≤ 1048576 }
     ensures { IfOk result (CodesRows kind dictionary.now ids) }
 {
-    if have_all(alloc, &ids, dictionary.count())? {
+    if have_all(alloc, list, dictionary.count())? {
         let values = ColumnValues::Lent(dictionary);
+        let ids = ColumnIds::packed(ids);
         return Ok(CodedColumn { values, ids });
     }
-    let column = column_of(alloc, kind, dictionary, &ids)?;
+    let column = column_of(alloc, kind, dictionary, list)?;
     let (own, ids) = Dictionary::of_column(alloc, kind, &column)?;
-    let ids = RowIds::of(alloc, ids, own.count())?;
+    let ids = ColumnIds::alone(RowIds::of(alloc, ids, own.count())?);
     let values = ColumnValues::Own(own);
     Ok(CodedColumn { values, ids })
 }
 
 // Whether each id below a number is one of these. They are looked at as far as the last that is
 // found first.
-fn have_all(alloc: Global, ids: &RowIds, count: u32) -> Result<bool, NoMemory>
+fn have_all(alloc: Global, ids: &[u32], count: u32) -> Result<bool, NoMemory>
     requires { AreBelow count ids.now }
     ensures { IfOk result (λ all. all ≡ true → HaveAll count ids.now) }
 {
     let mut marks = vec![in alloc; false; count as usize]?;
     let mut next = 0;
     'ids: for row in 0..ids.len() {
-        let place = ids.at(row) as usize;
+        let place = ids[row] as usize;
         marks[place] = true;
         if place == next {
             next = first_unmarked(&marks, next);
@@ -152,12 +161,14 @@ pub(crate) fn decoded_columns(alloc: Global, coded: &CodedColumns) -> Result<Col
     ensures width { IfOk result (λ t. length t.columns ≡ length coded.now.columns.items) }
 {
     let mut columns = Vec::with_capacity(alloc, coded.columns.len())?;
+    let mut list = Vec::new(alloc);
     'columns: for at in 0..coded.columns.len() {
         let column = &coded.columns[at];
         let dictionary = column.values.dictionary();
         let _count = dictionary.count();
         let kind = dictionary.kind();
-        columns.push(column_of(alloc, kind, dictionary, &column.ids)?)?;
+        column.ids.put_all(&mut list)?;
+        columns.push(column_of(alloc, kind, dictionary, list.as_slice())?)?;
     }
     Ok(Columns::new(columns, coded.rows as usize))
 }

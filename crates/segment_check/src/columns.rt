@@ -9,7 +9,6 @@ ghost use Rattle.values.specs.declared.value.Value.TheVariants as value;
 use data_types::FieldKind;
 use dictionary::Dictionary;
 use outside::NoMemory;
-use row_ids::RowIds;
 use std::alloc::Global;
 use values::{Column, Value};
 
@@ -18,7 +17,7 @@ pub(crate) fn column_of(
     alloc: Global,
     kind: FieldKind,
     dictionary: &Dictionary,
-    ids: &RowIds,
+    ids: &[u32],
 ) -> Result<Column, NoMemory>
     requires kind { dictionary.now.kind ≡ kind }
     requires stands { IsDictionary dictionary.now }
@@ -28,7 +27,7 @@ pub(crate) fn column_of(
     let mut column = empty_column(alloc, kind);
     column.reserve(ids.len())?;
     'ids: for row in 0..ids.len() {
-        push_value(alloc, dictionary, ids.at(row), &mut column)?;
+        push_value(alloc, dictionary, ids[row], &mut column)?;
     }
     Ok(column)
 }

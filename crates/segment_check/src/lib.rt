@@ -9,6 +9,7 @@ mod columns;
 mod compare;
 mod head;
 mod laws;
+mod packed;
 mod spell;
 
 pub use check::{check_columns, check_image, count_image};

@@ -2,6 +2,7 @@ mod HeadLemmas
 pub mod Composed
 mod Openings
 mod Steps
+mod IdsDictionary
 mod LookupLemmas
 mod TreeChecks
 mod TreeSteps

@@ -1,5 +1,6 @@
 pub mod Calls
 pub mod Faults
+pub mod ColumnIds
 pub mod Heads
 pub mod Laws
 pub mod Lookups

@@ -3,6 +3,7 @@
 
 mod bounds;
 mod check;
+mod column_ids;
 mod dictionaries;
 mod fault;
 mod head;
@@ -17,6 +18,7 @@ mod tree_reading;
 mod trees;
 
 pub use check::check_head;
+pub use column_ids::Matched;
 pub use fault::{EngineFault, engine_fault};
 pub use head::Head;
 pub use laws::head_tells_trees_law;

@@ -182,8 +182,8 @@ impl Head {
         }
     }
 
-    // Keeps the dictionary of a column.
-    fn keep(&mut self, column: u16, dictionary: Dictionary)
+    /// Keeps the dictionary of a column.
+    pub(crate) fn keep(&mut self, column: u16, dictionary: Dictionary)
         requires { column < length self.old.dictionaries }
         ensures { self.new ≡ with_dictionary column dictionary self.old }
     {

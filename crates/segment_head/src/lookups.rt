@@ -3,6 +3,7 @@ ghost use Rattle.std.specs.Prelude.{◌≡◌, ◌≢◌, ◌≤◌, ◌+◌, �
 ghost use Rattle.outside.specs.Seen.{seen};
 ghost use Rattle.values.specs.declared.value.Value.TheVariants as value;
 ghost use Rattle.value_ids.specs.Coding.{AreBelow, values_at};
+ghost use Rattle.value_ids.specs.Dictionary.{most_values};
 ghost use Rattle.value_ids.specs.Ids.{Cuts, matching};
 ghost use Rattle.dictionary_reading.specs.Bounds.{bounds_of};
 ghost use Rattle.dictionary_reading.specs.InFile.{HasRoom};
@@ -13,14 +14,14 @@ ghost use Rattle.segment_head.specs.Calls.{IsColumnOf, IsCountPart, Names, Reads
 ghost use Rattle.segment_head.specs.Heads.{HasCount, dictionary_section};
 ghost use Rattle.segment_head.specs.Lookups.{LogsDictionary, OfColumn, ReadsWhere};
 
-use crate::{Head, NoMemory};
+use crate::{Head, Matched, NoMemory};
 use data_types::FieldKind;
 use dictionary_reading::{FileDictionary, LookupFault};
 use outside::{Place, Shelf};
 use segment_file::{HeadFault, Part};
 use std::alloc::Global;
 use table_schema::Table;
-use value_ids::{Cut, IdSet};
+use value_ids::Cut;
 use values::{Test, Value};
 
 impl Head {
@@ -51,19 +52,21 @@ impl Head {
         }
     }
 
-    /// The ids of the values of a column that satisfy a test. No value is tested: each bound of the
-    /// test is cut.
-    pub fn ids_matching<S: Shelf>(
+    /// How many values a column has, and the ids of those that satisfy a test. No value is tested:
+    /// each bound of the test is cut.
+    pub fn matched<S: Shelf>(
         &self,
         alloc: Global,
         shelf: &mut S,
         table: &Table,
         column: u16,
         test: &Test,
-    ) -> Result<IdSet, HeadFault>
+    ) -> Result<Matched, HeadFault>
         requires { IsColumnOf table.now self.now column }
-        ensures reads { ReadsPart (λ ids. OfColumn column (λ d. ids ≡ matching test.now d.values))
+        ensures reads { ReadsPart (λ m. OfColumn column (λ d. (m.count ≡ length d.values)
+            × (m.ids ≡ matching test.now d.values)))
             table.now self.now (seen S.Shelf shelf.old) (seen S.Shelf shelf.new) result }
+        ensures few { IfOk result (λ m. m.count ≤ most_values) }
         ensures part { Names (IsCountPart column) result }
         ensures log { LogsDictionary self.now column (4 + 10920 * length (bounds_of test.now))
             (S.log shelf.old) (S.log shelf.new) }
@@ -73,7 +76,10 @@ impl Head {
             Err(fault) => return Err(fault),
         };
         match dictionary.ids_matching(alloc, shelf, test) {
-            Ok(ids) => Ok(ids),
+            Ok(ids) => Ok(Matched {
+                count: dictionary.count,
+                ids,
+            }),
             Err(fault) => Err(of_lookup(fault, column)),
         }
     }

@@ -50,7 +50,7 @@ spelled_there table rows heads (c ∷ cs) (d ∷ ds) zero all lt = (d, refl)
 spelled_there table rows heads (c ∷ cs) (d ∷ ds) (suc k) all lt = spelled_there table rows heads cs ds k all.1 (omega (arith, lt))
 
 -- it has the dictionary of each column
-whole_loaded : (table : Table) (name file bytes : List ℕ) (whole : Seen) → IsHead table name file bytes whole → (column : ℕ) → column < length table.schema.fields → IsLoaded whole column
+pub whole_loaded : (table : Table) (name file bytes : List ℕ) (whole : Seen) → IsHead table name file bytes whole → (column : ℕ) → column < length table.schema.fields → IsLoaded whole column
 whole_loaded table name file bytes whole full column lt =
     let (d, at) = spelled_there table full.front.rows (heads_in table name full.front bytes) (columns_of table) full.dictionaries column full.keeps.heads.spelled
     (subst (λ n. column < n) (sym (length-range_with_len 0 (length table.schema.fields))) lt) in

@@ -2,3 +2,4 @@ pub mod HeadLemmas
 pub mod NamedLemmas
 pub mod EmptyLemmas
 mod LoadLemmas
+pub mod FoundLemmas

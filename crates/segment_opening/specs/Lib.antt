@@ -2,3 +2,4 @@ pub mod Opened
 pub mod Calls
 pub mod Wanted
 pub mod Emptied
+pub mod Found

@@ -7,8 +7,9 @@ ghost use Rattle.segment_head.specs.Heads.{IsHeadOf, OfWhole};
 ghost use Rattle.segment_opening.specs.Calls.{IsQueryOnHead, LooksUp};
 ghost use Rattle.segment_opening.specs.Emptied.{IsEmptied, MatchesNone};
 
+use crate::found::find;
 use outside::Shelf;
-use segment_file::{HeadFault, Part};
+use segment_file::Part;
 use segment_head::{EngineFault, Head};
 use std::alloc::Global;
 use table_schema::{BoundQuery, Conjunct, Table};
@@ -67,11 +68,10 @@ fn matches_none<S: Shelf>(
     if !is_large(head, *column) || !names_few(test) {
         return Ok(false);
     }
-    match head.ids_matching(alloc, shelf, table, *column, test) {
-        Ok(ids) => Ok(ids.is_empty()),
-        Err(HeadFault::NotASegment(_)) => Ok(false),
-        Err(HeadFault::ReadFault) => Err(EngineFault::ReadFault),
-        Err(HeadFault::NoMemory) => Err(EngineFault::NoMemory),
+    match find(alloc, shelf, table, head, *column, test) {
+        Ok(Some(found)) => Ok(found.matched.ids.is_empty()),
+        Ok(None) => Ok(false),
+        Err(fault) => Err(fault),
     }
 }
 
@@ -83,8 +83,8 @@ pub(crate) fn is_large(head: &Head, column: u16) -> bool {
     }
 }
 
-// Whether a test names a few values, or a range of them, that may be between others.
-fn names_few(test: &Test) -> bool {
+/// Whether a test names a few values, or a range of them, that may be between others.
+pub(crate) fn names_few(test: &Test) -> bool {
     match test {
         Test::Compare(CompareOp::Equal, _) => true,
         Test::OneOf(members, negated) => !*negated && members.len() <= FEW_BOUNDS,

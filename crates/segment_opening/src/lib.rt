@@ -3,10 +3,14 @@
 #![tactic(auto)]
 
 mod emptied;
+mod found;
+mod loaded;
 mod loading;
 mod opening;
 mod small;
 mod wanted;
 
-pub use loading::{load_detailed, load_unless_emptied};
+pub use found::Found;
+pub use loaded::Loaded;
+pub use loading::{load_detailed, load_or_look_up};
 pub use opening::open_segment;

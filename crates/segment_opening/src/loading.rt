@@ -1,14 +1,19 @@
 //! The dictionaries of a segment that a query wants are loaded.
-ghost use Rattle.std.specs.Prelude.{◌≡◌, ◌<◌, true, false, IfOk, IfSome, ℕ, OnOk, get_or, length};
+ghost use Rattle.std.specs.Prelude.{◌≡◌, ◌≢◌, ◌<◌, true, false, IfOk, IfSome, ℕ, OnOk, get_or, length};
 ghost use Rattle.outside.specs.Seen.{seen};
 ghost use Rattle.segment_head.specs.Heads.{IsHeadOf, IsLoaded, IsPartOf, OfWhole};
 ghost use Rattle.segment_plan.specs.Matched.{AreLoaded};
 ghost use Rattle.table_schema.specs.ValidTable.{IsValidTable};
 ghost use Rattle.segment_opening.specs.Calls.{HasWanted, IsQueryOnHead, LoadsMore};
 ghost use Rattle.segment_opening.specs.Emptied.{IsEmptied};
+ghost use Rattle.segment_opening.specs.Found.{IsFound, IsFoundAlone};
 ghost use Rattle.segment_opening.specs.Wanted.{AreFactorsLoaded};
+ghost use Rattle.segment_opening.specs.declared.found.Found as spec;
+ghost use Rattle.segment_opening.specs.declared.loaded.Loaded.TheVariants as kind;
 
 use crate::emptied::is_emptied;
+use crate::found::{Found, load_others, look_up};
+use crate::loaded::Loaded;
 use crate::small::is_emptied_by_small;
 use crate::wanted::{detailed_columns, wanted_columns};
 use outside::Shelf;
@@ -16,9 +21,64 @@ use segment_head::{EngineFault, Head, engine_fault};
 use std::alloc::Global;
 use table_schema::{BoundQuery, Table};
 
-/// Loads the dictionaries that the answer of a segment wants, unless a conjunct is known to match
-/// no value of its column: then no large one is loaded. Answers whether they were loaded.
-pub fn load_unless_emptied<S: Shelf>(
+/// Loads the dictionaries that the answer of a segment wants, but for that of a column that can be
+/// looked up where it lies, unless a conjunct is known to match no value of its column: then no
+/// large one is loaded.
+pub fn load_or_look_up<S: Shelf>(
+    alloc: Global,
+    shelf: &mut S,
+    table: &Table,
+    query: &BoundQuery,
+    by_tree: bool,
+    head: &mut Head,
+) -> Result<Loaded, EngineFault>
+    requires { IsQueryOnHead query.now table.now head.old }
+    ensures loads { LoadsMore table.now result head.old head.new
+        (seen S.Shelf shelf.old) (seen S.Shelf shelf.new) }
+    ensures emptied { IfOk result (λ loaded. loaded ≡ kind.Emptied →
+        IsEmptied query.now table.now (S.held shelf.old) head.old) }
+    ensures wanted { IfOk result (λ loaded. loaded ≡ kind.Wanted →
+        HasWanted query.now by_tree head.new) }
+    ensures found { IfOk result (λ loaded. (found : spec.Found) → loaded ≡ kind.But found →
+        IsFoundAlone query.now table.now (S.held shelf.old) by_tree head.old head.new
+        found.column found.matched) }
+{
+    match look_up(alloc, shelf, table, query, by_tree, head) {
+        Ok(Some(found)) => load_but(alloc, shelf, table, query, found, head),
+        Ok(None) => match load_unless_emptied(alloc, shelf, table, query, by_tree, head) {
+            Ok(true) => Ok(Loaded::Wanted),
+            Ok(false) => Ok(Loaded::Emptied),
+            Err(fault) => Err(fault),
+        },
+        Err(fault) => Err(fault),
+    }
+}
+
+/// Loads the dictionaries that the plan of a segment and what is said of it want, and no other: of
+/// the columns that a conjunct names alone, and where this star-tree is picked those that the bound
+/// on its documents is made of.
+pub fn load_detailed<S: Shelf>(
+    alloc: Global,
+    shelf: &mut S,
+    table: &Table,
+    query: &BoundQuery,
+    tree: Option<u8>,
+    head: &mut Head,
+) -> Result<(), EngineFault>
+    requires asked { IsQueryOnHead query.now table.now head.old }
+    requires tree { IfSome tree (λ n. n < length table.now.settings.trees) }
+    ensures loads { LoadsMore table.now result head.old head.new
+        (seen S.Shelf shelf.old) (seen S.Shelf shelf.new) }
+    ensures filtered { OnOk result (AreLoaded query.now.conjuncts head.new) }
+    ensures factors { OnOk result (AreFactorsLoaded query.now table.now tree head.new) }
+{
+    let detailed = detailed_columns(alloc, query, table, tree, table.schema.fields.len())?;
+    load_marked(alloc, shelf, table, detailed.as_slice(), head)
+}
+
+// Loads the dictionaries that the answer of a segment wants, unless a conjunct is known to match no
+// value of its column: then no large one is loaded. Answers whether they were loaded.
+fn load_unless_emptied<S: Shelf>(
     alloc: Global,
     shelf: &mut S,
     table: &Table,
@@ -93,30 +153,38 @@ fn load_wanted<S: Shelf>(
     load_marked(alloc, shelf, table, wanted.as_slice(), head)
 }
 
-/// Loads the dictionaries that the plan of a segment and what is said of it want, and no other: of
-/// the columns that a conjunct names alone, and where this star-tree is picked those that the bound
-/// on its documents is made of.
-pub fn load_detailed<S: Shelf>(
+// Loads what the answer wants but for the column of which this was found, if ids were found.
+fn load_but<S: Shelf>(
     alloc: Global,
     shelf: &mut S,
     table: &Table,
     query: &BoundQuery,
-    tree: Option<u8>,
+    found: Found,
     head: &mut Head,
-) -> Result<(), EngineFault>
+) -> Result<Loaded, EngineFault>
     requires asked { IsQueryOnHead query.now table.now head.old }
-    requires tree { IfSome tree (λ n. n < length table.now.settings.trees) }
+    requires found { IsFound query.now table.now (S.held shelf.old) head.old found.column
+        found.matched }
     ensures loads { LoadsMore table.now result head.old head.new
         (seen S.Shelf shelf.old) (seen S.Shelf shelf.new) }
-    ensures filtered { OnOk result (AreLoaded query.now.conjuncts head.new) }
-    ensures factors { OnOk result (AreFactorsLoaded query.now table.now tree head.new) }
+    ensures emptied { IfOk result (λ loaded. loaded ≡ kind.Emptied →
+        IsEmptied query.now table.now (S.held shelf.old) head.old) }
+    ensures partly { IfOk result (λ loaded. loaded ≢ kind.Wanted) }
+    ensures found { IfOk result (λ loaded. (f : spec.Found) → loaded ≡ kind.But f →
+        IsFoundAlone query.now table.now (S.held shelf.old) false head.old head.new
+        f.column f.matched) }
 {
-    let detailed = detailed_columns(alloc, query, table, tree, table.schema.fields.len())?;
-    load_marked(alloc, shelf, table, detailed.as_slice(), head)
+    if found.matched.ids.is_empty() {
+        return Ok(Loaded::Emptied);
+    }
+    match load_others(alloc, shelf, table, query, head) {
+        Ok(()) => Ok(Loaded::But(found)),
+        Err(fault) => Err(fault),
+    }
 }
 
-// Loads the dictionary of each column that is marked, and no other.
-fn load_marked<S: Shelf>(
+/// Loads the dictionary of each column that is marked, and no other.
+pub(crate) fn load_marked<S: Shelf>(
     alloc: Global,
     shelf: &mut S,
     table: &Table,

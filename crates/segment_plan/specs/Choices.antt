@@ -1,5 +1,5 @@
 -- The index by which the rows of a conjunct are found.
-use Rattle.std.specs.Prelude.{ℕ, Bool, true, false, ◌&&◌, ◌==◌, ◌+◌, List, [], ◌∷◌, Option, Some, None, slice_get, if◌then◌else◌}
+use Rattle.std.specs.Prelude.{◌≡◌, ℕ, Bool, true, false, ◌&&◌, ◌==◌, ◌+◌, List, [], ◌∷◌, Option, Some, None, slice_get, if◌then◌else◌}
 use Rattle.table_schema.specs.declared.query.Conjunct.{Conjunct}
 use Rattle.table_schema.specs.declared.query.Conjunct.TheVariants.{One, Many}
 use Rattle.table_schema.specs.declared.settings.Settings.{Settings}
@@ -29,6 +29,12 @@ IsReady head (Many condition) = Unit {0}
 abbrev pub is_sorted_on : Option ℕ → ℕ → Bool
 is_sorted_on None column = false
 is_sorted_on (Some sorted) column = sorted == column
+
+-- the column has no index
+pub record IsUnindexed (settings : Settings) (column : ℕ) : Type 0 where
+  pub unsorted : is_sorted_on settings.sorted column ≡ false
+  pub uninverted : is_set (slice_get settings.inverted column) ≡ false
+  pub unranged : is_set (slice_get settings.ranged column) ≡ false
 
 -- the first of these that serves: the sorted column, an inverted index, and a range index where the
 -- matching ids are consecutive

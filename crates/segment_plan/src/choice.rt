@@ -1,5 +1,5 @@
 //! The index by which the rows of a conjunct are found.
-ghost use Rattle.std.specs.Prelude.{◌≡◌, IfOk, map, slice_get};
+ghost use Rattle.std.specs.Prelude.{◌≡◌, IfOk, false, map, slice_get};
 ghost use Rattle.table_schema.specs.NeedIds.{is_set};
 ghost use Rattle.segment_plan.specs.Choices as spec;
 ghost use Rattle.segment_plan.specs.Matched.{AreLoaded};
@@ -10,6 +10,26 @@ use segment_head::Head;
 use std::alloc::Global;
 use table_schema::{Conjunct, Settings};
 use value_ids::IdSet;
+
+/// Whether the column has an index.
+pub fn is_indexed(settings: &Settings, column: u16) -> bool
+    ensures { result ≡ false → spec.IsUnindexed settings.now column }
+{
+    is_sorted_on(settings.sorted, column)
+        || is_set(settings.inverted.as_slice(), column)
+        || is_set(settings.ranged.as_slice(), column)
+}
+
+/// There are ids, and no id between them is left out. They ascend, so the ends tell.
+pub fn are_consecutive(ids: &IdSet) -> bool
+    ensures { result ≡ spec.are_consecutive ids.now }
+{
+    let ids = ids.as_slice();
+    match ids {
+        [] => false,
+        [first, ..] => ids[ids.len() - 1] - *first == ids.len() as u32 - 1,
+    }
+}
 
 /// A choice for each conjunct.
 pub(crate) fn choices(
@@ -76,16 +96,5 @@ fn is_set(marks: &[bool], column: u16) -> bool
     match marks.get(column as usize) {
         Some(mark) => *mark,
         None => false,
-    }
-}
-
-// There are ids, and no id between them is left out. They ascend, so the ends tell.
-fn are_consecutive(ids: &IdSet) -> bool
-    ensures { result ≡ spec.are_consecutive ids.now }
-{
-    let ids = ids.as_slice();
-    match ids {
-        [] => false,
-        [first, ..] => ids[ids.len() - 1] - *first == ids.len() as u32 - 1,
     }
 }

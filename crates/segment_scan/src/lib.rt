@@ -11,6 +11,7 @@ mod scan_laws;
 mod segment;
 mod whole;
 
+pub use column_reader::IdRooms;
 pub use laws::{agreement_law, image_law, index_law, readable_law};
 pub use scan_laws::{least_read_law, served_law};
 pub use segment::scan_segment;

@@ -17,7 +17,7 @@ ghost use Rattle.segment_head.specs.declared.fault.EngineFault.TheVariants.{NotA
 
 use coded_columns::{Coded, Ids, SegmentColumns};
 use coded_scan::add_coded;
-use column_reader::read_columns;
+use column_reader::{IdRooms, read_columns};
 use group_table::{GroupTable, SlotPool, TableFault};
 use outside::Shelf;
 use segment_head::{EngineFault, Head};
@@ -50,7 +50,7 @@ pub(crate) fn coded_columns<'a>(
 /// are named, and answers how many rows there are. The forward section of each of these is read
 /// once, and nothing else.
 pub(crate) fn scan_columns<S: Shelf>(
-    alloc: Global,
+    rooms: &mut IdRooms,
     shelf: &mut S,
     head: &Head,
     named: &[bool],
@@ -78,18 +78,23 @@ pub(crate) fn scan_columns<S: Shelf>(
         (seen S.Shelf shelf.old) (seen S.Shelf shelf.new) }
     ensures stays { StaysIn groups.old pool.old groups.new pool.new }
 {
-    let ids = match read_columns(alloc, shelf, head, named) {
+    let alloc = rooms.alloc();
+    let read = match read_columns(rooms, shelf, head, named) {
         Ok(ids) => ids,
         Err(fault) => return Err(fault),
     };
-    let ids = ids.as_slice();
+    let ids = read.as_slice();
     let columns = coded_columns(alloc, head, ids)?;
     let segment = SegmentColumns {
         columns: columns.as_slice(),
         count: head.rows() as usize,
     };
     match add_coded(alloc, query, &[], &segment, groups, pool) {
-        Ok(()) => Ok(head.rows()),
+        Ok(()) => {
+            drop(columns);
+            rooms.give_back(read);
+            Ok(head.rows())
+        }
         Err(TableFault::TooManyGroups) => Err(EngineFault::TooManyGroups),
         Err(TableFault::NoMemory) => Err(EngineFault::NoMemory),
     }

@@ -15,13 +15,13 @@ use crate::answered::Answered;
 use crate::laws::{image_law, index_law};
 use crate::left::scan_left;
 use crate::whole::scan_whole;
+use column_reader::IdRooms;
 use doc_lists::{DocList, DocSet};
 use group_table::{GroupTable, SlotPool};
 use index_filter::documents;
 use outside::Shelf;
 use segment_head::{EngineFault, Head};
 use segment_plan::ScanPlan;
-use std::alloc::Global;
 use table_schema::{BoundQuery, Table};
 
 /// Adds the rows of a segment that satisfy the filter of a query to its groups, and answers how
@@ -30,9 +30,9 @@ use table_schema::{BoundQuery, Table};
 /// indexes have of the matching ids is read, or of the buckets that overlap them, and then the ids
 /// of the documents that are left: of those to be checked in each column that is named beside the
 /// served conjuncts, and of those that are sure in each that is named beside the conjuncts of range
-/// indexes too.
+/// indexes too. Whole columns are put where those of an earlier segment were.
 pub fn scan_segment<S: Shelf>(
-    alloc: Global,
+    rooms: &mut IdRooms,
     shelf: &mut S,
     head: &Head,
     table: &Table,
@@ -63,6 +63,7 @@ pub fn scan_segment<S: Shelf>(
 {
     image_law();
     index_law();
+    let alloc = rooms.alloc();
     let choices = plan.choices.as_slice();
     let conjuncts = query.conjuncts.as_slice();
     let mut unsure = DocSet::of_list(DocList::new(alloc));
@@ -71,7 +72,7 @@ pub fn scan_segment<S: Shelf>(
         Err(fault) => return Err(fault),
     };
     match docs {
-        None => scan_whole(alloc, shelf, head, table, query, groups, pool),
+        None => scan_whole(rooms, shelf, head, table, query, groups, pool),
         Some(docs) => {
             let answered = Answered { head, table, query };
             scan_left(

@@ -15,18 +15,18 @@ ghost use Rattle.segment_head.specs.declared.fault.EngineFault.TheVariants.{NotA
 
 use crate::laws::image_law;
 use crate::scan::scan_columns;
+use column_reader::IdRooms;
 use group_table::{GroupTable, SlotPool};
 use outside::Shelf;
 use segment_head::{EngineFault, Head};
 use segment_plan::named_columns;
-use std::alloc::Global;
 use table_schema::{BoundQuery, Table};
 
 /// Adds the rows of a segment that satisfy the filter of a query to its groups, and answers how
 /// many rows the segment has. The forward section of each column that the query names is read once,
 /// one column after the other, and nothing else.
 pub(crate) fn scan_whole<S: Shelf>(
-    alloc: Global,
+    rooms: &mut IdRooms,
     shelf: &mut S,
     head: &Head,
     table: &Table,
@@ -54,7 +54,7 @@ pub(crate) fn scan_whole<S: Shelf>(
     ensures stays { StaysIn groups.old pool.old groups.new pool.new }
 {
     image_law();
-    let named = named_columns(alloc, query, &[], table.schema.fields.len())?;
+    let named = named_columns(rooms.alloc(), query, &[], table.schema.fields.len())?;
     let named = named.as_slice();
-    scan_columns(alloc, shelf, head, named, query, groups, pool)
+    scan_columns(rooms, shelf, head, named, query, groups, pool)
 }

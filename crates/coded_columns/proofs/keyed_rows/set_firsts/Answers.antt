@@ -1,5 +1,5 @@
 use Rattle.std.proofs.Common.{◌<◌, ℕ, get_or, length, refl, arith, inl}
-use Rattle.coded_columns.proofs.KeySteps.{first-kept, first-next}
+use Rattle.coded_columns.proofs.KeySteps.{first-next}
 use Rattle.coded_columns.proofs.keyed_rows.set_firsts.Goals as goal
 
 pub loop-at-init : goal.loop-at-init

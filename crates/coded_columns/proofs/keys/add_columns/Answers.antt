@@ -7,7 +7,7 @@ use Rattle.coded_columns.proofs.KeySteps.{key-next}
 use Rattle.coded_columns.proofs.keys.add_columns.Goals as goal
 
 pub loop-at-init : goal.loop-at-init
-loop-at-init c = λ k lt. c.requires.empty k
+loop-at-init c = c.requires.first
 
 pub add_column-requires-clause-fits : goal.add_column-requires-clause-fits
 add_column-requires-clause-fits c = λ k lt.

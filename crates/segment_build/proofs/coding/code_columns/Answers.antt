@@ -53,11 +53,11 @@ columns-preserved c =
     let field = c.index-fields-at.result in
     let same = c.as_slice-fields.ensures in
     let lt : at < length table.schema.fields = omega (arith, c.columns-test.true, ap length same) in
-    let one : CodedColumn = record { values = held.Own c.in_ok-dictionary.dictionary; ids = c.in_ok-ids.ids } in
+    let one : CodedColumn = record { values = held.Own c.in_ok-dictionary.dictionary; ids = c.alone-ids.result } in
     codings_more table t at c.columns.all.items _ one c.columns.invariant
     (coding_one table t at field column one lt (subst (λ fields. field ≡ get_or fields at field) same c.index-fields-at.is) c.column-column.ensures.place
     (c.in_ok-dictionary.ensures.kind ∙ ap (λ (f : Field). f.kind) (sym c.index-fields-at.is)) c.in_ok-dictionary.ensures.distinct
-    (subst (λ ids. Codes c.in_ok-dictionary.dictionary.values ids column.values) (sym c.in_ok-ids.ensures) c.in_ok-dictionary.ensures.ids))
+    (subst (λ ids. Codes c.in_ok-dictionary.dictionary.values ids column.values) (sym (c.alone-ids.ensures ∙ c.in_ok-of.ensures)) c.in_ok-dictionary.ensures.ids))
     c.in_ok-push.ensures.items
 
 pub returns-clause-coded : goal.returns-clause-coded

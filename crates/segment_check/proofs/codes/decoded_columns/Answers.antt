@@ -12,7 +12,7 @@ columns-preserved c =
     let column = c.index-column.result.now in
     let lt : at < length coded.columns.items = omega (arith, c.columns-test.true, c.len-at-end.ensures) in
     values_more coded at column c.columns.columns.items c.push.new.self.items c.in_ok-column_of.field-0 lt c.index-column.ensures c.columns.invariant
-    (c.in_ok-column_of.ensures ∙ ap (λ (d : Distinct). values_at d.values column.ids) c.dictionary-dictionary.ensures) c.in_ok-push.ensures.items
+    (c.in_ok-column_of.ensures ∙ ap (values_at c.dictionary-dictionary.result.now.values) (c.as_slice.ensures.value ∙ c.in_ok-put_all.ensures) ∙ ap (λ (d : Distinct). values_at d.values column.ids) c.dictionary-dictionary.ensures) c.in_ok-push.ensures.items
 
 pub new-requires : goal.new-requires
 new-requires c =

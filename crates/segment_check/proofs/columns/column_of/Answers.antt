@@ -1,7 +1,6 @@
-use Rattle.std.proofs.Common.{◌≡◌, ◌≤◌, ◌<◌, ◌∙◌, ℕ, List, length, get_or, pos, take, sym, ap, subst, arith}
+use Rattle.std.proofs.Common.{◌≡◌, ◌≤◌, ◌<◌, ◌∙◌, ℕ, List, length, get_or, pos, take, ap, arith}
 use Rattle.std.proofs.lemmas.List.{get_or_default, take_all}
 use Rattle.std.proofs.lemmas.Option.{slice_get-get_or}
-use Rattle.values.specs.Columns.{is_text, pushed}
 use Rattle.values.specs.declared.value.Value.{Value}
 use Rattle.values.specs.declared.value.Value.TheVariants.{Whole}
 use Rattle.value_ids.specs.Coding.{values_at}
@@ -16,23 +15,22 @@ ids-init c = record {
 
 pub push_value-requires-clause-id : goal.push_value-requires-clause-id
 push_value-requires-clause-id c =
-    let lt : c.ids.row < length c.args.ids.now = omega (arith, c.ids-test.true, c.len-row-end.ensures) in
-    subst (λ n. n < length c.args.dictionary.now.values) (sym c.at.ensures) (c.requires.below c.ids.row 0 lt)
+    let lt : c.ids.row < length c.args.ids.now = omega (arith, c.ids-test.true) in
+    c.requires.below c.ids.row 0 lt
 
 pub push_value-requires-clause-sort : goal.push_value-requires-clause-sort
 push_value-requires-clause-sort c =
     let ids : List ℕ = c.args.ids.now in
     let at : ℕ = c.ids.row in
     let id : ℕ = get_or ids at 0 in
-    let lt : at < length ids = omega (arith, c.ids-test.true, c.len-row-end.ensures) in
+    let lt : at < length ids = omega (arith, c.ids-test.true) in
     let values : List Value = c.args.dictionary.now.values in
     value_suits c.args.kind c.args.dictionary.now c.ids.column.are_texts id (get_or values id (Whole (pos 0))) c.requires.kind c.requires.stands.fit
     (slice_get-get_or values id (Whole (pos 0)) (c.requires.below at 0 lt)) c.ids.invariant.sort
-    ∙ ap (λ n. is_text (get_or values n (Whole (pos 0)))) (sym c.at.ensures)
 
 pub returns : goal.returns
 returns c =
-    let end : length c.args.ids.now ≤ c.ids.row = omega (arith, c.ids-test.false, c.len-row-end.ensures) in
+    let end : length c.args.ids.now ≤ c.ids.row = omega (arith, c.ids-test.false) in
     c.ids.invariant.values ∙ ap (values_at c.args.dictionary.now.values) (take_all c.ids.row c.args.ids.now end)
 
 pub ids-preserved : goal.ids-preserved
@@ -40,9 +38,9 @@ ids-preserved c =
     let ids : List ℕ = c.args.ids.now in
     let at : ℕ = c.ids.row in
     let id : ℕ = get_or ids at 0 in
-    let lt : at < length ids = omega (arith, c.ids-test.true, c.len-row-end.ensures) in
+    let lt : at < length ids = omega (arith, c.ids-test.true) in
     let values : List Value = c.args.dictionary.now.values in
-    let pushes = c.in_ok-push_value.ensures ∙ ap (λ n. pushed c.ids.column (get_or values n (Whole (pos 0)))) c.at.ensures in
+    let pushes = c.in_ok-push_value.ensures in
     record {
       sort = ap (λ l. l.are_texts) pushes ∙ c.ids.invariant.sort;
       values = ap (λ l. l.values) pushes

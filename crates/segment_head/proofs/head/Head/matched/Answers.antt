@@ -1,4 +1,4 @@
-use Rattle.std.proofs.Common.{◌≡◌, ◌+◌, ◌*◌, ℕ, List, length, arith}
+use Rattle.std.proofs.Common.{◌≡◌, ◌+◌, ◌*◌, ℕ, List, Option, Some, None, length, arith}
 use Rattle.outside.specs.Seen as outside
 use Rattle.outside.specs.Seen.{seen}
 use Rattle.value_ids.specs.Ids.{matching}
@@ -6,24 +6,34 @@ use Rattle.dictionary_reading.specs.Bounds.{bounds_of}
 use Rattle.value_ids.specs.Dictionary.{Distinct}
 use Rattle.segment_head.specs.Heads.{Seen}
 use Rattle.segment_head.specs.Lookups.{OfColumn}
-use Rattle.segment_head.proofs.LookupLemmas.{IsFaultOf, IsFound, lookup_err, lookup_logs, lookup_ok}
-use Rattle.segment_head.proofs.head.Head.ids_matching.Goals as goal
+use Rattle.segment_head.specs.declared.column_ids.Matched.{Matched}
+use Rattle.outside.specs.Files.{Files}
+use Rattle.dictionary_reading.specs.InFile.{OfDictionary}
+use Rattle.dictionary_reading.specs.declared.in_file.FileDictionary.{FileDictionary}
+use Rattle.outside.proofs.SeenLemmas.{reads_so}
+use Rattle.segment_head.proofs.LookupLemmas.{reads_looked, IsFaultOf, IsFound, lookup_err, lookup_logs, lookup_ok}
+use Rattle.segment_head.proofs.head.Head.matched.Goals as goal
+
+-- with how many values there are
+with_count : (l : FileDictionary) (held : Option Files) (P : Distinct → Type 0) → OfDictionary l held P → OfDictionary l held (λ d. (l.count ≡ length d.values) × P d)
+with_count l None P told = tt
+with_count l (Some files) P told = λ d spelled count. (count, told d spelled count)
 
 pub returns-in-Ok-ids_matching-clause-reads : goal.returns-in-Ok-ids_matching-clause-reads
 returns-in-Ok-ids_matching-clause-reads g c =
-    let P : List ℕ → Distinct → Type 0 = λ ids d. ids ≡ matching c.args.test.now d.values in
-    let Whole : List ℕ → Seen → Type 0 = λ a. OfColumn c.args.column (P a) in
+    let P : Matched → Distinct → Type 0 = λ m d. (m.count ≡ length d.values) × (m.ids ≡ matching c.args.test.now d.values) in
+    let Whole : Matched → Seen → Type 0 = λ a. OfColumn c.args.column (P a) in
     let old : outside.Seen = seen g.S.Shelf c.args.shelf.now in
     let mid : outside.Seen = seen g.S.Shelf c.in_file.new.shelf in
     let new : outside.Seen = seen g.S.Shelf c.ids_matching.new.shelf in
     let l = c.in-Ok.dictionary in
     let is : IsFound c.args.table.now c.args.self.now c.args.column l old mid = record { column_is = c.requires; place = c.in-Ok.ensures.place; kind = c.in-Ok.ensures.kind; reads = c.in-Ok.ensures.reads } in
-    lookup_ok c.args.table.now c.args.self.now c.args.column l old mid new P c.in-Ok-ids_matching.ids is c.in-Ok-ids_matching.ensures.ids c.in-Ok-ids_matching.ensures.looks.only_reads
+    lookup_ok c.args.table.now c.args.self.now c.args.column l old mid new P (record { count = l.count; ids = c.in-Ok-ids_matching.ids }) is (with_count l mid.held (λ d. c.in-Ok-ids_matching.ids ≡ matching c.args.test.now d.values) c.in-Ok-ids_matching.ensures.ids) (reads_so ⊥ _ mid new (λ e. absurd cc) (λ e. absurd e) (reads_looked c.in-Ok-ids_matching.ids mid new c.in-Ok-ids_matching.ensures.looks.only_reads))
 
 pub returns-clause-reads : goal.returns-clause-reads
 returns-clause-reads g c =
-    let P : List ℕ → Distinct → Type 0 = λ ids d. ids ≡ matching c.args.test.now d.values in
-    let Whole : List ℕ → Seen → Type 0 = λ a. OfColumn c.args.column (P a) in
+    let P : Matched → Distinct → Type 0 = λ m d. (m.count ≡ length d.values) × (m.ids ≡ matching c.args.test.now d.values) in
+    let Whole : Matched → Seen → Type 0 = λ a. OfColumn c.args.column (P a) in
     let old : outside.Seen = seen g.S.Shelf c.args.shelf.now in
     let mid : outside.Seen = seen g.S.Shelf c.in_file.new.shelf in
     let new : outside.Seen = seen g.S.Shelf c.ids_matching.new.shelf in

@@ -1,0 +1,20 @@
+use Rattle.std.proofs.Common.{◌≡◌, ◌∙◌, ◌||◌, false, true, get_or, ap, arith}
+use Rattle.std.specs.List.{list_any}
+use Rattle.segment_plan.specs.Named.{AreNamedLoaded, agg_names, conjunct_names, is_in, query_names}
+use Rattle.segment_opening.specs.Found.{unfiltered}
+use Rattle.segment_opening.proofs.NamedLemmas.{AreMarkedLoaded, named_within}
+use Rattle.segment_opening.proofs.FoundLemmas.{unfiltered_names}
+use Rattle.segment_opening.proofs.HeadLemmas.{ok_so}
+use Rattle.segment_opening.proofs.found.load_others.Goals as goal
+
+pub returns-clause-others : goal.returns-clause-others
+returns-clause-others g c =
+    let table = c.args.table.now in
+    let query = c.args.query.now in
+    let head = c.load_marked.new.head in
+    let marks = c.as_slice.result.now in
+    ok_so c.load_marked.result (AreMarkedLoaded table marks head) (AreNamedLoaded (unfiltered query) head)
+    (λ loaded column names.
+    let lt = named_within table query column c.requires.asked.query (unfiltered_names query column names) in
+    loaded column lt (ap (λ l. get_or l column false) c.as_slice.ensures.value ∙ c.in_ok-others.ensures.each column (omega (arith, lt, c.len.ensures)) ∙ names))
+    c.load_marked.ensures.loaded
