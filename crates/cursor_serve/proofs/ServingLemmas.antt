@@ -2,12 +2,14 @@
 use Rattle.std.proofs.Common.{◌≡◌, ℕ, List, [], Some, None, Option, sym, subst, ap}
 use Rattle.std.specs.Prelude.{is_some}
 use Rattle.std.specs.FinMap as finite
+use Rattle.std.specs.List.{IsDistinct}
 use Rattle.outside.specs.Files.{name_order}
 use Rattle.cursor_serve.specs.Machine.{Cursor, started}
 use Rattle.cursor_serve.specs.ServingStands.{BothKept, StartStands}
 use Rattle.cursor_serve.proofs.SoundLemmas.{no_cursor, starts_sound}
 
 pub start_stands : StartStands
+unfolding IsDistinct
 start_stands files texts table lists accepted live none = record {
   accepted = accepted;
   sound = starts_sound lists;

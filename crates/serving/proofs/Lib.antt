@@ -6,3 +6,5 @@ mod StoredLemmas
 mod PlaceLemmas
 mod MovedLemmas
 mod StepLemmas
+mod OpenLemmas
+mod OpenedLemmas

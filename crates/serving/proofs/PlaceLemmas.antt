@@ -35,7 +35,7 @@ IsOther c d = d.groups.owner ≢ c.groups.owner
 apart_owner : (n m : ℕ) → nat_eq n m ≡ false → m ≢ n
 apart_owner n m e is = omega (arith, eqb-false n m e, is)
 
-all_apart : (n : ℕ) (ds : List Cursor) → AllByRecursion (λ m. nat_eq n m ≡ false) (owners_of ds) → AllByRecursion (λ (d : Cursor). d.groups.owner ≢ n) ds
+pub all_apart : (n : ℕ) (ds : List Cursor) → AllByRecursion (λ m. nat_eq n m ≡ false) (owners_of ds) → AllByRecursion (λ (d : Cursor). d.groups.owner ≢ n) ds
 all_apart n [] none = tt
 all_apart n (d ∷ ds) none = (apart_owner n d.groups.owner none.0, all_apart n ds none.1)
 
@@ -99,11 +99,11 @@ module _ (old new : Pool) (c e : Cursor) (keeps : KeepsAside c.groups.owner gath
         groups = groups_in (same i);
       }
 
-  rest_still : (ds : List Cursor) → AllByRecursion (IsOther c) ds → AllByRecursion (IsCursorIn old) ds → AllByRecursion (IsCursorIn new) ds
+  pub rest_still : (ds : List Cursor) → AllByRecursion (IsOther c) ds → AllByRecursion (IsCursorIn old) ds → AllByRecursion (IsCursorIn new) ds
   rest_still [] ne own = tt
   rest_still (d ∷ ds) ne own = (other_still d ne.0 own.0, rest_still ds ne.1 own.1)
 
-  rest_same : (ds : List Cursor) → AllByRecursion (IsOther c) ds → AllByRecursion (IsCursorIn old) ds → cursors_in new ds ≡ cursors_in old ds
+  pub rest_same : (ds : List Cursor) → AllByRecursion (IsOther c) ds → AllByRecursion (IsCursorIn old) ds → cursors_in new ds ≡ cursors_in old ds
   rest_same [] ne own = refl
   rest_same (d ∷ ds) ne own = λ i. other_same d ne.0 own.0 i ∷ rest_same ds ne.1 own.1 i
 
@@ -167,7 +167,7 @@ module _ (old new : Pool) (c e : Cursor) (keeps : KeepsAside c.groups.owner gath
   seen_here name q d rest true t own_name = refl
   seen_here name q d rest false t own_name = sym (ap (λ b. cond b (Some (cursor_in old d)) rest) (ap (same_name q) (sym own_name) ∙ t))
 
-  seen_later : (name q : List ℕ) (d : Cursor) (rest : Option OpenCursor) → same_name name d.name ≡ false → (a : Bool) → same_name q d.name ≡ a → (b : Bool) → same_name q name ≡ b
+  pub seen_later : (name q : List ℕ) (d : Cursor) (rest : Option OpenCursor) → same_name name d.name ≡ false → (a : Bool) → same_name q d.name ≡ a → (b : Bool) → same_name q name ≡ b
       → cond a (Some (cursor_in old d)) (cond b (Some (cursor_in new e)) rest) ≡ cond b (Some (cursor_in new e)) (cond a (Some (cursor_in old d)) rest)
   seen_later name q d rest apart true s true t =
       let same : same_name name d.name ≡ true = ap (λ n. same_name n d.name) (sym (tied q name t)) ∙ s in

@@ -17,6 +17,7 @@ use group_table::{GroupTable, SlotPool, kinds_in};
 use outside::{Seq, Shelf};
 use query_executor::{ExecutorFault, Pass, pass_over};
 use segment_head::Stored;
+use segment_scan::IdRooms;
 use star_answer::docs_bound_law;
 use std::alloc::Global;
 use std::mem::replace;
@@ -92,6 +93,7 @@ fn add_all<S: Shelf>(
     let mut pass = Pass {
         groups,
         pool: replace(pool, spare),
+        rooms: IdRooms::new(alloc),
         most: MOST_GROUPS,
         wants_lines: false,
         lines: Vec::new(alloc),
