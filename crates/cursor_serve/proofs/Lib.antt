@@ -1,3 +1,4 @@
 pub mod FetchLemmas
 pub mod SoundLemmas
+pub mod NumberedLemmas
 pub mod ServingLemmas

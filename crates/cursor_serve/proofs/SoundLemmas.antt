@@ -173,7 +173,7 @@ is_or_not name other = elim (eq_by_cmp name_order name other) as (λ b. eq_by_cm
   | false ↦ λ apart. inr (λ same. false≢true (sym apart ∙ ap (λ n. eq_by_cmp name_order n other) same ∙ itself other))
 ] refl
 
-one_value : {X : Type 0} (x y : X) → Some x ≡ Some y → x ≡ y
+pub one_value : {X : Type 0} (x y : X) → Some x ≡ Some y → x ≡ y
 one_value x y e = cc
 
 -- ---- lists that are held and awaited

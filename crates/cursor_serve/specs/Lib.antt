@@ -1,4 +1,5 @@
 pub mod Machine
 pub mod Laws
 pub mod Sound
+pub mod Numbered
 pub mod ServingStands

@@ -1,5 +1,6 @@
 //! Laws of what cursors print. Each is the contract of a function that does nothing.
 ghost use Rattle.cursor_serve.specs.Laws.{FetchedOwn};
+ghost use Rattle.cursor_serve.specs.Numbered.{StartsNumbered, StaysNumbered};
 ghost use Rattle.cursor_serve.specs.ServingStands.{StartStands};
 ghost use Rattle.cursor_serve.specs.Sound.{StartsSound, StaysSound};
 
@@ -19,6 +20,16 @@ pub fn sound_law()
 /// The machine starts in a sound state, whatever lists are live.
 pub fn sound_start_law()
     ensures { StartsSound }
+{}
+
+/// Each line leads from a sound state in which lists have numbers of their own to another one.
+pub fn numbered_law()
+    ensures { StaysNumbered }
+{}
+
+/// The machine starts with lists that have numbers of their own.
+pub fn numbered_start_law()
+    ensures { StartsNumbered }
 {}
 
 /// A store that stands for lists and has no kept file stands, with no cursor kept, for the start of

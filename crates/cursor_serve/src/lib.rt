@@ -5,4 +5,6 @@
 
 mod laws;
 
-pub use laws::{fetched_law, sound_law, sound_start_law, start_stands_law};
+pub use laws::{
+    fetched_law, numbered_law, numbered_start_law, sound_law, sound_start_law, start_stands_law,
+};

@@ -8,3 +8,6 @@ mod MovedLemmas
 mod StepLemmas
 mod OpenLemmas
 mod OpenedLemmas
+mod OwnerLemmas
+mod NewLemmas
+mod FileLemmas

@@ -1,5 +1,5 @@
 -- A cursor is opened, as the machine does.
-use Rattle.std.proofs.Common.{◌≡◌, ◌≢◌, ◌∙◌, ◌+◌, ◌<◌, ◌≤◌, ◌||◌, ℕ, zero, suc, Bool, true, false, cond, nat_eq, nat_le, List, [], ◌∷◌, ◌++◌, filter, get_or, length, map, take, Option, Some, None, IfSome, Result, Ok, Err, refl, sym, ap, subst, arith, is_some, length-append}
+use Rattle.std.proofs.Common.{◌≡◌, ◌≢◌, ◌∙◌, ◌+◌, ◌<◌, ◌≤◌, ◌||◌, ℕ, zero, suc, Bool, true, false, cond, nat_eq, nat_le, List, [], ◌∷◌, ◌++◌, filter, length, map, take, Option, Some, None, IfSome, Result, Ok, Err, refl, sym, ap, subst, arith, is_some, length-append}
 use Rattle.std.specs.FinMap as finite
 use Rattle.std.specs.Cmp.{eq_by_cmp_equiv}
 use Rattle.std.specs.List.{AllByRecursion, IsDistinct, list_any}
@@ -33,7 +33,7 @@ use Rattle.serving.specs.declared.cursor.Cursor.{Cursor}
 use Rattle.serving.specs.declared.fault.ServeFault.{ServeFault}
 use Rattle.serving.specs.declared.fault.ServeFault.TheVariants as fault
 use Rattle.serving.proofs.OpenLemmas.{files_live, live_filed, live_listed, names_live}
-use Rattle.serving.proofs.PlaceLemmas.{IsOther, all_apart, no_place, place_kept, rest_same, rest_still}
+use Rattle.serving.proofs.PlaceLemmas.{IsOther, all_apart, no_place, pool_still, rest_same, rest_still}
 use Rattle.serving.proofs.StandLemmas.{PutsUnder, names_in, stands_with, with_cursor}
 
 -- ---- how many cursors there are
@@ -202,11 +202,7 @@ module _ (table : Table) (pool new : Pool) (ds : List Cursor) (name : List ℕ) 
 
   pub cursors_opened : length ds < most_cursors → AreCursors new (ds ++ e ∷ [])
   cursors_opened few = record {
-    pool_is = record {
-      owners = ap length keeps.quotas ∙ all.pool_is.owners;
-      quotas = λ o lt. ap (λ qs. get_or qs o 0) keeps.quotas ∙ all.pool_is.quotas o lt;
-      width = keeps.width ∙ all.pool_is.width;
-    };
+    pool_is = pool_still owner owner pool new keeps all.pool_is;
     few = let long = length-append ds (e ∷ []) in omega (arith, long, few);
     each = all_joined (IsCursorIn new) ds (e ∷ []) (rest_still pool new e e keeps_e ds others all.each) (made.kept, tt);
     owners = subst (IsDistinct nat_eq) (sym (joined_map (λ (d : Cursor). d.groups.owner) ds (e ∷ [])))

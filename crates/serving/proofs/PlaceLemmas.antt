@@ -67,37 +67,80 @@ lower (Some n) at e = let same : suc n ≡ suc at = cc in let one : n ≡ at = o
 
 -- ---- the others as they were
 
+-- a cursor whose owner has what it had
+module _ (one two : ℕ) (old new : Pool) (keeps : KeepsAside one two old new) (d : Cursor) (ne : d.groups.owner ≢ one) (no : d.groups.owner ≢ two) (own : IsCursorIn old d) where
+  same_by : in_pool d.groups new ≡ in_pool d.groups old
+  same_by = same_in d.groups old new keeps.quotas (keeps.kinds d.groups.owner ne no) (keeps.slots d.groups.owner ne no) own.table.holds
+
+  still_by : IsCursorIn new d
+  still_by = record {
+    owner = own.owner;
+    owner_is = own.owner_is;
+    table = still_in d.groups old new keeps.quotas (keeps.kinds d.groups.owner ne no) (keeps.slots d.groups.owner ne no) own.table;
+    of_query = subst (IsTableOf d.query) (sym same_by) own.of_query;
+    fits = subst (λ (k : KeptGroups). HaveAtMost (d.answered * 1048576) (groups_in k)) (sym same_by) own.fits;
+    answered = own.answered;
+    few = own.few;
+    files = own.files;
+    there = own.there;
+  }
+
+  seen_by_same : cursor_in new d ≡ cursor_in old d
+  seen_by_same = λ i. record {
+    name = d.name;
+    query = d.query;
+    segments = d.segments;
+    answered = d.answered;
+    files = d.files.items;
+    groups = groups_in (same_by i);
+  }
+
+-- the owner of a cursor is not that of the segments that are being answered
+no_gatherer : (pool : Pool) (d : Cursor) → IsCursorIn pool d → d.groups.owner ≢ gatherer
+no_gatherer pool d own is = let lt = own.owner in omega (arith, lt, is)
+
+-- nor are the quotas and the width others
+pub pool_still : (one two : ℕ) (old new : Pool) → KeepsAside one two old new → IsPool old → IsPool new
+pool_still one two old new keeps is = record {
+  owners = ap length keeps.quotas ∙ is.owners;
+  quotas = λ owner lt. ap (λ qs. get_or qs owner 0) keeps.quotas ∙ is.quotas owner lt;
+  width = keeps.width ∙ is.width;
+}
+
+-- an owner that no cursor has
+pub cursors_aside : (one : ℕ) (old new : Pool) (ds : List Cursor) → KeepsAside one one old new → AreCursors old ds → list_any (nat_eq one) (owners_of ds) ≡ false → held new one ≡ 0 → AreCursors new ds
+cursors_aside one old new ds keeps all free none = record {
+  pool_is = pool_still one one old new keeps all.pool_is;
+  few = all.few;
+  each = each_aside ds free all.each;
+  owners = all.owners;
+  names = all.names;
+  free = λ other is. by other is (nat_eq other one) refl;
+}
+  where
+    first : (a b : Bool) → (a || b) ≡ false → (a ≡ false) × (b ≡ false)
+    first true b is = absurd cc
+    first false b is = (refl, is)
+
+    each_aside : (ds : List Cursor) → list_any (nat_eq one) (owners_of ds) ≡ false → AllByRecursion (IsCursorIn old) ds → AllByRecursion (IsCursorIn new) ds
+    each_aside [] free own = tt
+    each_aside (d ∷ ds) free own =
+        let two = first (nat_eq one d.groups.owner) (list_any (nat_eq one) (owners_of ds)) free in
+        let ne : d.groups.owner ≢ one = λ is. eqb-false one d.groups.owner two.0 (sym is) in
+        (still_by one one old new keeps d ne ne own.0, each_aside ds two.1 own.1)
+
+    by : (other : ℕ) → list_any (nat_eq other) (owners_of ds) ≡ false → (b : Bool) → nat_eq other one ≡ b → held new other ≡ 0
+    by other is true same = ap (held new) (eqb-true other one same) ∙ none
+    by other is false apart =
+        let ne : other ≢ one = λ e. eqb-false other one apart e in
+        ap finite.len (keeps.slots other ne ne) ∙ all.free other is
+
 module _ (old new : Pool) (c e : Cursor) (keeps : KeepsAside c.groups.owner gatherer old new) where
   other_still : (d : Cursor) → IsOther c d → IsCursorIn old d → IsCursorIn new d
-  other_still d ne own =
-      let no : d.groups.owner ≢ gatherer = λ is. let lt = own.owner in omega (arith, lt, is) in
-      let kinds = keeps.kinds d.groups.owner ne no in
-      let slots = keeps.slots d.groups.owner ne no in
-      let same : in_pool d.groups new ≡ in_pool d.groups old = same_in d.groups old new keeps.quotas kinds slots own.table.holds in
-      record {
-        owner = own.owner;
-        owner_is = own.owner_is;
-        table = still_in d.groups old new keeps.quotas kinds slots own.table;
-        of_query = subst (IsTableOf d.query) (sym same) own.of_query;
-        fits = subst (λ (k : KeptGroups). HaveAtMost (d.answered * 1048576) (groups_in k)) (sym same) own.fits;
-        answered = own.answered;
-        few = own.few;
-        files = own.files;
-        there = own.there;
-      }
+  other_still d ne own = still_by c.groups.owner gatherer old new keeps d ne (no_gatherer old d own) own
 
   other_same : (d : Cursor) → IsOther c d → IsCursorIn old d → cursor_in new d ≡ cursor_in old d
-  other_same d ne own =
-      let no : d.groups.owner ≢ gatherer = λ is. let lt = own.owner in omega (arith, lt, is) in
-      let same = same_in d.groups old new keeps.quotas (keeps.kinds d.groups.owner ne no) (keeps.slots d.groups.owner ne no) own.table.holds in
-      λ i. record {
-        name = d.name;
-        query = d.query;
-        segments = d.segments;
-        answered = d.answered;
-        files = d.files.items;
-        groups = groups_in (same i);
-      }
+  other_same d ne own = seen_by_same c.groups.owner gatherer old new keeps d ne (no_gatherer old d own) own
 
   pub rest_still : (ds : List Cursor) → AllByRecursion (IsOther c) ds → AllByRecursion (IsCursorIn old) ds → AllByRecursion (IsCursorIn new) ds
   rest_still [] ne own = tt
@@ -122,11 +165,7 @@ module _ (old new : Pool) (c e : Cursor) (keeps : KeepsAside c.groups.owner gath
   cursors_moved ds at place all it name owner closed =
       let owners : owners_of (set ds at e) ≡ owners_of ds = same_field (λ (d : Cursor). d.groups.owner) ds at owner place in
       record {
-        pool_is = record {
-          owners = ap length keeps.quotas ∙ all.pool_is.owners;
-          quotas = λ owner lt. ap (λ qs. get_or qs owner 0) keeps.quotas ∙ all.pool_is.quotas owner lt;
-          width = keeps.width ∙ all.pool_is.width;
-        };
+        pool_is = pool_still c.groups.owner gatherer old new keeps all.pool_is;
         few = subst (λ n. n ≤ 16) (sym (long ds at place)) all.few;
         each = each_moved ds at place all.each it;
         owners = subst (IsDistinct nat_eq) (sym owners) all.owners;
@@ -232,40 +271,14 @@ no_place pool name (d ∷ ds) none = none_by (same_name name d.name) (place_unde
 -- ---- where no owner of a cursor has changed anything
 
 module _ (old new : Pool) (keeps : KeepsAside gatherer gatherer old new) where
-  kept_same : (d : Cursor) → IsCursorIn old d → cursor_in new d ≡ cursor_in old d
-  kept_same d own =
-      let no : d.groups.owner ≢ gatherer = λ is. let lt = own.owner in omega (arith, lt, is) in
-      let same = same_in d.groups old new keeps.quotas (keeps.kinds d.groups.owner no no) (keeps.slots d.groups.owner no no) own.table.holds in
-      λ i. record {
-        name = d.name;
-        query = d.query;
-        segments = d.segments;
-        answered = d.answered;
-        files = d.files.items;
-        groups = groups_in (same i);
-      }
-
   pub still_cursor : (d : Cursor) → IsCursorIn old d → IsCursorIn new d
-  still_cursor d own =
-      let no : d.groups.owner ≢ gatherer = λ is. let lt = own.owner in omega (arith, lt, is) in
-      let kinds = keeps.kinds d.groups.owner no no in
-      let slots = keeps.slots d.groups.owner no no in
-      let same : in_pool d.groups new ≡ in_pool d.groups old = same_in d.groups old new keeps.quotas kinds slots own.table.holds in
-      record {
-        owner = own.owner;
-        owner_is = own.owner_is;
-        table = still_in d.groups old new keeps.quotas kinds slots own.table;
-        of_query = subst (IsTableOf d.query) (sym same) own.of_query;
-        fits = subst (λ (k : KeptGroups). HaveAtMost (d.answered * 1048576) (groups_in k)) (sym same) own.fits;
-        answered = own.answered;
-        few = own.few;
-        files = own.files;
-        there = own.there;
-      }
+  still_cursor d own = let no = no_gatherer old d own in still_by gatherer gatherer old new keeps d no no own
 
   pub all_same : (ds : List Cursor) → AllByRecursion (IsCursorIn old) ds → cursors_in new ds ≡ cursors_in old ds
   all_same [] own = refl
-  all_same (d ∷ ds) own = λ i. kept_same d own.0 i ∷ all_same ds own.1 i
+  all_same (d ∷ ds) own =
+      let no = no_gatherer old d own.0 in
+      λ i. seen_by_same gatherer gatherer old new keeps d no no own.0 i ∷ all_same ds own.1 i
 
 -- what was gathered is closed, and nothing else has changed
 pub aside_closed : (old mid after new : Pool) (owner : ℕ) → owner ≡ gatherer → KeepsAside gatherer gatherer old mid → after ≡ mid → KeepsOthers owner after new → KeepsAside gatherer gatherer old new

@@ -1,5 +1,5 @@
 -- A cursor that was opened.
-use Rattle.std.specs.Prelude.{◌≡◌, ℕ, List, Some, map}
+use Rattle.std.specs.Prelude.{◌≡◌, ℕ, List, [], Some, map}
 use Rattle.table_schema.specs.declared.query.BoundQuery.{BoundQuery}
 use Rattle.state_pool.specs.Pool.{Pool}
 use Rattle.group_table.specs.Groups.{groups_of}

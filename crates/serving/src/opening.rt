@@ -7,8 +7,9 @@ ghost use Rattle.serving.specs.Kept.{IsEmptyPool, IsPool, KeepsAside};
 ghost use Rattle.serving.specs.Opened.{IsNewCursor};
 
 use crate::cursor::Cursor;
-use crate::gathering::{GATHERER, MOST_GROUPS};
-use agg_laws::{AggKind, Kinds};
+use crate::gathering::MOST_GROUPS;
+use crate::places::MOST_CURSORS;
+use agg_laws::AggKind;
 use group_table::{GroupTable, SlotPool, kinds_in};
 use outside::{Name, NoMemory, Seq};
 use segment_file::segment_file_name;
@@ -22,14 +23,8 @@ const MOST_AGGS: usize = 16;
 pub(crate) fn cursor_pool(alloc: Global) -> Result<SlotPool, NoMemory>
     ensures { IfOk result IsEmptyPool }
 {
-    let mut kinds = Kinds::new(alloc);
-    'kinds: for _ in 0..MOST_AGGS {
-        kinds.push(AggKind::Count)?;
-    }
-    let mut quotas = Seq::new(alloc);
-    'quotas: for _ in 0..GATHERER as usize + 1 {
-        quotas.push(MOST_GROUPS)?;
-    }
+    let kinds = Seq::from_vec(vec![in alloc; AggKind::Count; MOST_AGGS]?);
+    let quotas = Seq::from_vec(vec![in alloc; MOST_GROUPS; MOST_CURSORS + 1]?);
     SlotPool::with_slots(alloc, &kinds, &quotas)
 }
 

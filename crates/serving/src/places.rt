@@ -1,5 +1,5 @@
 //! Cursors by their names, and the owners of their groups.
-ghost use Rattle.std.specs.Prelude.{◌≡◌, ◌<◌, false, length, map, nat_eq};
+ghost use Rattle.std.specs.Prelude.{◌≡◌, ◌<◌, false, length, nat_eq};
 ghost use Rattle.std.specs.List.{list_any};
 ghost use Rattle.cursor_serve.specs.Machine.{most_cursors};
 ghost use Rattle.serving.specs.Kept.{place_under};
@@ -31,7 +31,7 @@ pub(crate) fn place_of(cursors: &[Cursor], name: &str) -> Option<usize>
 pub(crate) fn free_owner(cursors: &[Cursor]) -> u16
     requires { length cursors.now < most_cursors }
     ensures below { result < most_cursors }
-    ensures free { list_any (nat_eq result) (map (λ cursor. cursor.owner) cursors.now) ≡ false }
+    ensures free { list_any (λ cursor. nat_eq result cursor.owner) cursors.now ≡ false }
 {
     'owners: for owner in 0..MOST_CURSORS as u16 {
         if !has_owner(cursors, owner) {
@@ -43,7 +43,7 @@ pub(crate) fn free_owner(cursors: &[Cursor]) -> u16
 
 // Whether one of the cursors has this owner.
 fn has_owner(cursors: &[Cursor], owner: u16) -> bool
-    ensures { result ≡ list_any (nat_eq owner) (map (λ cursor. cursor.owner) cursors.now) }
+    ensures { result ≡ list_any (λ cursor. nat_eq owner cursor.owner) cursors.now }
 {
     cursors.iter().any(|cursor| owner == cursor.owner)
 }
