@@ -16,6 +16,7 @@ use Rattle.table_store.specs.Accepted.{IsAccepted}
 use Rattle.table_store.specs.Kept.{IsKeptName, kept_name}
 use Rattle.table_store.specs.Stands.{IsSegment, Stands}
 use Rattle.table_store.specs.State.{HasTable, Segment, Segments, Texts}
+use Rattle.cursor_serve.specs.Numbered.{IsNumbered}
 use Rattle.cursor_serve.specs.Sound.{IsSound}
 use Rattle.cursor_serve.specs.Machine.{Cursor, KeptList, Listed, Live, Machine, Version, rows_of, started}
 
@@ -111,6 +112,7 @@ pub record ServingStands (serving : List OpenCursor) (files : Files) (texts : Te
     (m : Machine) : Type 0 where
   pub accepted : IsAccepted texts table
   pub sound : IsSound m
+  pub numbered : IsNumbered m
   -- the cursors are the machine's, with the groups that they have and the files that they need
   pub cursors : (name : List ℕ)
       → BothKept m (finite.get m.cursors name) (kept_under name serving)

@@ -11,3 +11,6 @@ mod OpenedLemmas
 mod OwnerLemmas
 mod NewLemmas
 mod FileLemmas
+mod CloseLemmas
+mod GoneLemmas
+mod ClosedLemmas

@@ -22,9 +22,11 @@ use Rattle.table_store.specs.State.{HasTable, Texts}
 use Rattle.table_store.proofs.NameLemmas.{entries_apart}
 use Rattle.cursor_serve.specs.Machine as machine
 use Rattle.cursor_serve.specs.Machine.{After, Cursor as Kept, Machine, Open, lists_of, most_cursors, opened, refused}
+use Rattle.cursor_serve.specs.Numbered.{IsNumbered}
 use Rattle.cursor_serve.specs.Sound.{IsSound}
 use Rattle.cursor_serve.specs.ServingStands.{BothKept, IsKeptAs, OpenCursor, ServingStands, kept_under, segments_of}
 use Rattle.cursor_serve.proofs.FetchLemmas.{itself, tied}
+use Rattle.cursor_serve.proofs.NumberedLemmas.{stays_numbered}
 use Rattle.cursor_serve.proofs.SoundLemmas.{all_joined, stays_sound}
 use Rattle.serving.specs.Calls.{IsAnsweredAs, Serves}
 use Rattle.serving.specs.Kept.{AreCursors, IsCursorIn, IsPool, KeepsAside, cursor_in, cursors_in, gatherer, owners_of, place_under, same_name}
@@ -230,6 +232,7 @@ module _ (table : Table) (pool new : Pool) (ds : List Cursor) (name : List ℕ) 
       opened_as name query m false (taken_as table pool ds name query m stands.cursors ∙ ap is_some none)
       ∙ ap (λ b. cond b (refused machine.TooManyCursors m) (record { answer = Ok (length (lists_of m.live)); machine = with_cursor name cursor m })) room in
       let sound : IsSound (with_cursor name cursor m) = subst (λ (a : After ℕ). IsSound a.machine) as (stays_sound 0 (Open name query) m stands.sound) in
+      let numbered : IsNumbered (with_cursor name cursor m) = subst (λ (a : After ℕ). IsNumbered a.machine) as (stays_numbered 0 (Open name query) m stands.sound stands.numbered) in
       let kept : IsKeptAs m cursor (cursor_in new e) = record {
         query = made.query_is;
         segments = made.segments_are ∙ named;
@@ -241,7 +244,7 @@ module _ (table : Table) (pool new : Pool) (ds : List Cursor) (name : List ℕ) 
       (sym (joined_map (cursor_in new) ds (e ∷ []) ∙ ap (λ l. l ++ cursor_in new e ∷ []) (rest_same pool new e e keeps_e ds others all.each)))
       (puts_last name (cursor_in new e) olds made.name_is (no_place pool name ds none)) in
       subst (λ (a : After ℕ). IsAnsweredAs a (ServingStands news files texts table) (Stands files (HasTable texts (segments_of m.live))) (Ok (length segments))) (sym as)
-      (ap Ok (sym count), stands_with olds news files texts table m name cursor (cursor_in new e) stands puts kept sound (live_filed olds files texts table m stands) (live_listed olds files texts table m stands))
+      (ap Ok (sym count), stands_with olds news files texts table m name cursor (cursor_in new e) stands puts kept sound numbered (live_filed olds files texts table m stands) (live_listed olds files texts table m stands))
     where
       not_full : (n : ℕ) → n < 16 → nat_le 16 n ≡ false
       not_full n lt = by (nat_le 16 n) refl

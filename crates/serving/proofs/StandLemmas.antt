@@ -15,6 +15,7 @@ use Rattle.segment_head.specs.Stored.{HasImage, stored_rows}
 use Rattle.segment_head.specs.declared.stored.Stored.{Stored}
 use Rattle.table_store.specs.State.{Texts}
 use Rattle.cursor_serve.specs.Machine.{Cursor, Listed, Machine, moved, rows_of}
+use Rattle.cursor_serve.specs.Numbered.{IsNumbered}
 use Rattle.cursor_serve.specs.Sound.{IsSound}
 use Rattle.cursor_serve.specs.ServingStands.{BothKept, HasFile, HasList, IsKeptAs, IsListOf, OpenCursor, ServingStands, kept_under, stands_as}
 use Rattle.cursor_serve.proofs.FetchLemmas.{itself, tied}
@@ -82,12 +83,13 @@ module _ (serving serving_new : List OpenCursor) (files : Files) (texts : Texts)
   list_still : (listed : Listed) → IsListOf table files m listed → IsListOf table files (with_cursor name cursor m) listed
   list_still listed of = record { segment = of.segment; image = of.image }
 
-  pub stands_with : ServingStands serving files texts table m → PutsUnder name kept serving serving_new → IsKeptAs m cursor kept → IsSound (with_cursor name cursor m)
+  pub stands_with : ServingStands serving files texts table m → PutsUnder name kept serving serving_new → IsKeptAs m cursor kept → IsSound (with_cursor name cursor m) → IsNumbered (with_cursor name cursor m)
       → AllByRecursion (HasFile m) (drop cursor.answered cursor.lists) → AllByRecursion (IsListOf table files m) cursor.lists
       → ServingStands serving_new files texts table (with_cursor name cursor m)
-  stands_with stands puts is sound there lists = record {
+  stands_with stands puts is sound numbered there lists = record {
     accepted = stands.accepted;
     sound = sound;
+    numbered = numbered;
     cursors = λ q.
         subst (λ o. BothKept (with_cursor name cursor m) o (kept_under q serving_new)) (sym (finite.get-insert nat_list_cmp_total m.cursors name cursor q))
         (subst (BothKept (with_cursor name cursor m) (cond (same_name q name) (Some cursor) (finite.get m.cursors q))) (sym (puts q))

@@ -34,8 +34,10 @@ use Rattle.table_store.specs.Stands.{Stands}
 use Rattle.table_store.specs.State.{HasTable, Texts}
 use Rattle.cursor_serve.specs.Machine as machine
 use Rattle.cursor_serve.specs.Machine.{After, Cursor as Kept, Listed, Machine, Fetch, Step, fetched, fetched_as, fetched_by, is_over, left_of, most_cursor_groups, moved, rows_of, stepped, stepped_by}
+use Rattle.cursor_serve.specs.Numbered.{IsNumbered}
 use Rattle.cursor_serve.specs.Sound.{IsSound}
 use Rattle.cursor_serve.specs.ServingStands.{BothKept, HasFile, IsKeptAs, IsListOf, OpenCursor, ServingStands, kept_under, segments_of, stands_as}
+use Rattle.cursor_serve.proofs.NumberedLemmas.{stays_numbered}
 use Rattle.cursor_serve.proofs.SoundLemmas.{all_drop, stays_sound}
 use Rattle.serving.specs.Answered.{AnswersRows, HasRows, IsMoved, IsOverfull, next_stored}
 use Rattle.serving.specs.Calls.{IsAnsweredAs, IsRefusedAs, Serves}
@@ -75,12 +77,12 @@ take_next (suc a) (suc b) (x ∷ xs) le =
 
 -- ---- the cursor that is kept
 
-record IsFoundAs (m : Machine) (name : List ℕ) (kept : OpenCursor) : Type 0 where
-  cursor : Kept
-  got : finite.get m.cursors name ≡ Some cursor
-  is : IsKeptAs m cursor kept
+pub record IsFoundAs (m : Machine) (name : List ℕ) (kept : OpenCursor) : Type 0 where
+  pub cursor : Kept
+  pub got : finite.get m.cursors name ≡ Some cursor
+  pub is : IsKeptAs m cursor kept
 
-found_as : (m : Machine) (name : List ℕ) (serving : List OpenCursor) (kept : OpenCursor) → BothKept m (finite.get m.cursors name) (kept_under name serving)
+pub found_as : (m : Machine) (name : List ℕ) (serving : List OpenCursor) (kept : OpenCursor) → BothKept m (finite.get m.cursors name) (kept_under name serving)
     → kept_under name serving ≡ Some kept → IsFoundAs m name kept
 found_as m name serving kept both is = by (finite.get m.cursors name) refl (subst (BothKept m (finite.get m.cursors name)) is both)
   where
@@ -88,7 +90,7 @@ found_as m name serving kept both is = by (finite.get m.cursors name) refl (subs
     by None e both = absurd both
     by (Some cursor) e both = record { cursor = cursor; got = e; is = both }
 
-none_kept : (m : Machine) (name : List ℕ) (serving : List OpenCursor) → BothKept m (finite.get m.cursors name) (kept_under name serving) → kept_under name serving ≡ None → finite.get m.cursors name ≡ None
+pub none_kept : (m : Machine) (name : List ℕ) (serving : List OpenCursor) → BothKept m (finite.get m.cursors name) (kept_under name serving) → kept_under name serving ≡ None → finite.get m.cursors name ≡ None
 none_kept m name serving both is = by (finite.get m.cursors name) (subst (BothKept m (finite.get m.cursors name)) is both)
   where
     by : (o : Option Kept) → BothKept m o None → o ≡ None
@@ -178,8 +180,8 @@ module _ (table : Table) (files : Files) (texts : Texts) (m : Machine) (name : L
         let same = ap finite.len groups_now in
         omega (arith, le, same, most)
 
-    pub stands_now : (news : List OpenCursor) → PutsUnder name (cursor_in pool_new e) (cursors_in pool ds) news → IsSound (moved name cursor to m) → ServingStands news files texts table (moved name cursor to m)
-    stands_now news puts sound = stands_with (cursors_in pool ds) news files texts table m name (record cursor { answered = to }) (cursor_in pool_new e) stands puts kept_now sound
+    pub stands_now : (news : List OpenCursor) → PutsUnder name (cursor_in pool_new e) (cursors_in pool ds) news → IsSound (moved name cursor to m) → IsNumbered (moved name cursor to m) → ServingStands news files texts table (moved name cursor to m)
+    stands_now news puts sound numbered = stands_with (cursors_in pool ds) news files texts table m name (record cursor { answered = to }) (cursor_in pool_new e) stands puts kept_now sound numbered
         (all_later (HasFile m) cursor.answered to cursor.lists next (stands.answered name cursor found.got)) (stands.lists name cursor found.got)
 
 -- ---- a fault of the answer
@@ -251,8 +253,9 @@ module _ (table : Table) (pool : Pool) (ds : List Cursor) (name : List ℕ) (at 
       let lefts : 0 < left_of cursor = subst (λ n. 0 < n) (sym (left_as m found)) left in
       let as : stepped name m ≡ steps_left name cursor m false = steps_as m name cursor found.got lefts false over in
       let sound : IsSound (moved name cursor (cursor.answered + 1) m) = subst (λ (a : After ℕ). IsSound a.machine) as (stays_sound 0 (Step name) m stands.sound) in
+      let numbered : IsNumbered (moved name cursor (cursor.answered + 1) m) = subst (λ (a : After ℕ). IsNumbered a.machine) as (stays_numbered 0 (Step name) m stands.sound stands.numbered) in
       subst (λ (a : After ℕ). IsAnsweredAs a (ServingStands news files texts table) (Stands files (HasTable texts (segments_of m.live))) (Ok (length c.segments - c.answered - 1))) (sym as)
-      (ap (λ n. Ok (n - 1)) (left_as m found), stands_now table files texts m name pool ds c (cursor.answered + 1) stands found next pool_new e answered_to moved_to news puts sound)
+      (ap (λ n. Ok (n - 1)) (left_as m found), stands_now table files texts m name pool ds c (cursor.answered + 1) stands found next pool_new e answered_to moved_to news puts sound numbered)
 
   -- it is not answered, and the cursor is as it was
   pub steps_failed : (held : Option Files) (why : ExecutorFault) → 0 < length c.segments - c.answered
@@ -336,8 +339,9 @@ module _ (table : Table) (pool : Pool) (ds : List Cursor) (name : List ℕ) (at 
       let is_text : text ≡ answer_text (answer_of (shape_of cursor.query) (all_groups cursor)) = text_of (shape_of cursor.query) (groups_in (in_pool e.groups pool_new)) (all_groups cursor) text groups_are few
       (ap (λ (q : BoundQuery). replied (reply_over most_groups (shape_of q) (groups_in (in_pool e.groups pool_new)))) (sym same_query) ∙ says) in
       let sound : IsSound (moved name cursor all m) = subst (λ (a : After (List ℕ)). IsSound a.machine) as (stays_sound 0 (Fetch name) m stands.sound) in
+      let numbered : IsNumbered (moved name cursor all m) = subst (λ (a : After (List ℕ)). IsNumbered a.machine) as (stays_numbered 0 (Fetch name) m stands.sound stands.numbered) in
       subst (λ (a : After (List ℕ)). IsAnsweredAs a (ServingStands news files texts table) (Stands files (HasTable texts (segments_of m.live))) (Ok text)) (sym as)
-      (ap Ok (sym is_text), stands_now table files texts m name pool ds c all stands found next pool_new e answered_to moved_to news puts sound)
+      (ap Ok (sym is_text), stands_now table files texts m name pool ds c all stands found next pool_new e answered_to moved_to news puts sound numbered)
 
   -- they are not all answered, and the cursor is as it was
   pub fetches_failed : (held : Option Files) (why : ExecutorFault)

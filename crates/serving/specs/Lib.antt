@@ -3,4 +3,5 @@ pub mod Kept
 pub mod Gathered
 pub mod Answered
 pub mod Opened
+pub mod Closed
 pub mod Calls

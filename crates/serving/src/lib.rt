@@ -4,6 +4,7 @@
 #![tactic(auto)]
 
 mod answering;
+mod closing;
 mod cursor;
 mod fault;
 mod gathering;

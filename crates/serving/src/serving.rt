@@ -3,14 +3,16 @@ ghost use Rattle.std.specs.Prelude.{◌≡◌, [], IfOk, IsErrOf, is_some};
 ghost use Rattle.std.specs.List.{AllByRecursion};
 ghost use Rattle.outside.specs.Seen.{OnlyReads, seen};
 ghost use Rattle.table_schema.specs.ValidTable.{IsValidTable};
+ghost use Rattle.table_schema.specs.declared.table.Table.{Table as ATable};
 ghost use Rattle.table_schema.specs.ValidQuery.{IsValidQuery};
 ghost use Rattle.table_store.specs.Calls.{ReadsNoByte};
-ghost use Rattle.cursor_serve.specs.Machine.{fetched, opened, stepped};
+ghost use Rattle.cursor_serve.specs.Machine.{closed, fetched, opened, stepped};
 ghost use Rattle.serving.specs.Calls.{Serves};
 ghost use Rattle.serving.specs.Kept.{AreCursors, IsOver, cursors_in, place_under};
 
 use crate::ServeFault;
 use crate::answering::answer_to;
+use crate::closing::release;
 use crate::cursor::Cursor;
 use crate::opening::{cursor_pool, new_cursor};
 use crate::places::{MOST_CURSORS, free_owner, place_of};
@@ -19,7 +21,7 @@ use outside::{Bytes, Depot, NoMemory, Shelf};
 use sql_reply::answer;
 use std::alloc::Global;
 use table_schema::{BoundQuery, Table};
-use table_store::segment_names;
+use table_store::{kept_idle_law, segment_names};
 
 /// Cursors that are open, and the pool that their groups are in.
 #[derive(Drop)]
@@ -152,5 +154,34 @@ impl Serving {
             Err(fault) => return Err(ServeFault::from(fault)),
         }
         Ok(answer(alloc, &own.query, &own.groups, &self.pool)?)
+    }
+
+    /// Closes a cursor. The kept files that no other cursor has are taken away.
+    pub fn close<D: Depot>(
+        &mut self,
+        alloc: Global,
+        depot: &mut D,
+        cursor: &str,
+    ) -> Result<(), ServeFault>
+        requires cursors { AreCursors self.old.pool self.old.cursors.items }
+        ensures serves { (table : ATable) → Serves (closed cursor.now) table
+            (cursors_in self.old.pool self.old.cursors.items)
+            (cursors_in self.new.pool self.new.cursors.items)
+            (D.held depot.old) (D.held depot.new) result }
+        ensures cursors { AreCursors self.new.pool self.new.cursors.items }
+        ensures over { (table : ATable) → AllByRecursion (IsOver table) self.old.cursors.items
+            → AllByRecursion (IsOver table) self.new.cursors.items }
+    {
+        kept_idle_law();
+        let Some(at) = place_of(self.cursors.as_slice(), cursor) else {
+            return Err(ServeFault::NoCursor);
+        };
+        match release(alloc, depot, self.cursors.as_slice(), at) {
+            Ok(()) => {}
+            Err(fault) => return Err(ServeFault::from(fault)),
+        }
+        let Cursor { groups, .. } = self.cursors.remove(at);
+        groups.close(&mut self.pool);
+        Ok(())
     }
 }
