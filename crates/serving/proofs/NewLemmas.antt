@@ -13,8 +13,8 @@ use Rattle.serving.specs.declared.cursor.Cursor.{Cursor}
 pub empty_pool : (kinds : List AggKind) (quotas : List ℕ) (pool : Pool) → length kinds ≡ 16 → quotas ≡ replicate 17 10000 → IsNew kinds quotas pool → IsEmptyPool pool
 empty_pool kinds quotas pool width same new = record {
   pool_is = record {
-    owners = ap length (new.quotas_are ∙ same) ∙ length-replicate 17 10000;
-    quotas = λ owner lt. ap (λ qs. get_or qs owner 0) (new.quotas_are ∙ same) ∙ get_or-replicate 17 owner 10000 0 lt;
+    owners = ap length (new.quotas_are ∙ same) ∙ length-replicate {A = ℕ} 17 10000;
+    quotas = λ owner lt. ap (λ qs. get_or qs owner 0) (new.quotas_are ∙ same) ∙ get_or-replicate {A = ℕ} 17 owner 10000 0 lt;
     width = new.width_is ∙ width;
   };
   free = λ owner. ap finite.len (new.none_out owner) ∙ finite.len-empty nat_cmp (List AggState);

@@ -10,7 +10,7 @@ any_owner k [] = refl
 any_owner k (d ∷ ds) = ap (λ b. nat_eq k d.owner || b) (any_owner k ds)
 
 -- numbers without the first that is one
-without : ℕ → List ℕ → List ℕ
+abbrev without : ℕ → List ℕ → List ℕ
 without n [] = []
 without n (m ∷ ns) = cond (nat_eq n m) ns (m ∷ without n ns)
 

@@ -1,6 +1,6 @@
 -- The cursor at a place once it has moved on, among the others.
-use Rattle.std.proofs.Common.{◌≡◌, ◌≢◌, ◌∙◌, ◌+◌, ◌*◌, ◌<◌, ◌≤◌, ◌||◌, ℕ, zero, suc, Bool, true, false, cond, nat_eq, List, [], ◌∷◌, ◌++◌, length, map, get_or, set, Option, Some, None, refl, sym, ap, subst, arith}
-use Rattle.std.specs.List.{AllByRecursion, IsDistinct, list_any}
+use Rattle.std.proofs.Common.{◌≡◌, ◌≢◌, ◌∙◌, ◌+◌, ◌*◌, ◌<◌, ◌≤◌, ◌||◌, ℕ, zero, suc, Bool, true, false, cond, nat_eq, List, [], ◌∷◌, ◌++◌, length, map, get_or, set, take, Option, Some, None, refl, sym, ap, subst, arith}
+use Rattle.std.specs.List.{All, AllByRecursion, IsDistinct, list_any}
 use Rattle.std.specs.FinMap as finite
 use Rattle.std.specs.Ordering.{eq_by_cmp}
 use Rattle.std.specs.Option.{option_map}
@@ -8,14 +8,17 @@ use borrow.Author.Tests.{eqb-true, eqb-false}
 use Rattle.std.proofs.lemmas.Bool.{false≢true}
 use Rattle.std.proofs.lemmas.Map.Keys.{IsDistinct-head, IsDistinct-tail}
 use Rattle.outside.specs.Files.{name_order}
-use Rattle.table_schema.specs.declared.query.BoundQuery.{BoundQuery}
+use Rattle.segment_file.specs.Names.{IsSegmentName}
+use Rattle.table_schema.specs.ValidQuery.{IsValidQuery}
+use Rattle.table_schema.specs.declared.table.Table.{Table}
+use Rattle.serving.specs.Answered.{IsMoved}
 use Rattle.state_pool.specs.Pool.{Pool, Slots, held, kinds_at, quota_of, slots_of}
 use Rattle.group_table.specs.Kept.{IsTableOf, KeptGroups, groups_in}
 use Rattle.group_table.specs.Pooled.{KeepsOthers, PooledTable, in_pool}
 use Rattle.scan_engine.specs.Scanned.{HaveAtMost}
 use Rattle.cursor_serve.specs.ServingStands.{OpenCursor, kept_under}
 use Rattle.cursor_serve.proofs.FetchLemmas.{itself, tied}
-use Rattle.serving.specs.Kept.{AreCursors, IsCursorIn, IsPool, KeepsAside, cursor_in, cursors_in, gatherer, owners_of, place_under, same_name}
+use Rattle.serving.specs.Kept.{AreCursors, IsCursorIn, IsOver, IsPool, KeepsAside, cursor_in, cursors_in, gatherer, owners_of, place_under, same_name}
 use Rattle.serving.specs.declared.cursor.Cursor.{Cursor}
 use Rattle.serving.proofs.PoolLemmas.{aside_both, aside_first, same_in, still_in}
 use Rattle.serving.proofs.StandLemmas.{PutsUnder}
@@ -289,3 +292,58 @@ pub still_closed : (old mid after new : Pool) (owner : ℕ) → owner ≡ gather
     → (c : Cursor) → IsCursorIn old c → (u : PooledTable) → u ≡ c.groups → IsCursorIn new (record c { groups = u })
 still_closed old mid after new owner is keeps same closes c own u back =
     subst (λ (u : PooledTable). IsCursorIn new (record c { groups = u })) (sym back) (still_cursor old new (aside_closed old mid after new owner is keeps same closes) c own)
+
+-- ---- a look through cursors for a name
+
+none_by_name : (b : Bool) (o : Option ℕ) → b ≡ false → o ≡ None → cond b (Some 0) (option_map suc o) ≡ None
+none_by_name b o is none = (λ i. cond (is i) (Some 0) (option_map suc (none i)))
+
+later_none : (b : Bool) (o : Option ℕ) → cond b (Some 0) (option_map suc o) ≡ None → (b ≡ false) × (o ≡ None)
+later_none true o is = absurd cc
+later_none false None is = (refl, refl)
+later_none false (Some n) is = absurd cc
+
+-- none before has the name, and the one at the place has it
+pub found_at : (name : List ℕ) (ds : List Cursor) (at : ℕ) (c dflt : Cursor) → at < length ds → get_or ds at dflt ≡ c → place_under name (take at ds) ≡ None → same_name name c.name ≡ true → place_under name ds ≡ Some at
+found_at name [] at c dflt lt is none same = absurd (omega (arith, lt))
+found_at name (d ∷ ds) zero c dflt lt is none same = ap (λ b. cond b (Some 0) (option_map suc (place_under name ds))) (ap (λ (x : Cursor). same_name name x.name) is ∙ same)
+found_at name (d ∷ ds) (suc at) c dflt lt is none same =
+    let two = later_none (same_name name d.name) (place_under name (take at ds)) none in
+    (λ i. cond (two.0 i) (Some 0) (option_map suc (found_at name ds at c dflt (omega (arith, lt)) is two.1 same i)))
+
+pub none_next : (name : List ℕ) (ds : List Cursor) (at : ℕ) (c dflt : Cursor) → at < length ds → get_or ds at dflt ≡ c → place_under name (take at ds) ≡ None → same_name name c.name ≡ false → place_under name (take (suc at) ds) ≡ None
+none_next name [] at c dflt lt is none apart = refl
+none_next name (d ∷ ds) zero c dflt lt is none apart = none_by_name (same_name name d.name) None (ap (λ (x : Cursor). same_name name x.name) is ∙ apart) refl
+none_next name (d ∷ ds) (suc at) c dflt lt is none apart =
+    let two = later_none (same_name name d.name) (place_under name (take at ds)) none in
+    none_by_name (same_name name d.name) (place_under name (take (suc at) ds)) two.0 (none_next name ds at c dflt (omega (arith, lt)) is two.1 apart)
+
+-- ---- what holds of the cursor at a place, and of those that others are put in the place of
+
+pub each_at : (P : Cursor → Type 0) (ds : List Cursor) (at : ℕ) (c dflt : Cursor) → at < length ds → get_or ds at dflt ≡ c → AllByRecursion P ds → P c
+each_at P [] at c dflt lt is all = absurd (omega (arith, lt))
+each_at P (d ∷ ds) zero c dflt lt is all = subst P is all.0
+each_at P (d ∷ ds) (suc at) c dflt lt is all = each_at P ds at c dflt (omega (arith, lt)) is all.1
+
+pub each_set : (P : Cursor → Type 0) (ds : List Cursor) (at : ℕ) (e : Cursor) → AllByRecursion P ds → P e → AllByRecursion P (set ds at e)
+each_set P [] at e all it = tt
+each_set P (d ∷ ds) zero e all it = (it, all.1)
+each_set P (d ∷ ds) (suc at) e all it = (all.0, each_set P ds at e all.1 it)
+
+pub set_same : (ds : List Cursor) (at : ℕ) (c dflt : Cursor) → at < length ds → get_or ds at dflt ≡ c → set ds at c ≡ ds
+set_same [] at c dflt lt is = refl
+set_same (d ∷ ds) zero c dflt lt is = ap (λ x. x ∷ ds) (sym is)
+set_same (d ∷ ds) (suc at) c dflt lt is = ap (λ l. d ∷ l) (set_same ds at c dflt (omega (arith, lt)) is)
+
+-- the owner of the segments that are being answered is no cursor's
+pub gatherer_free : (pool : Pool) (ds : List Cursor) → AllByRecursion (IsCursorIn pool) ds → list_any (nat_eq gatherer) (owners_of ds) ≡ false
+gatherer_free pool [] own = refl
+gatherer_free pool (d ∷ ds) own = by (nat_eq gatherer d.groups.owner) refl (gatherer_free pool ds own.1)
+  where
+    by : (b : Bool) → nat_eq gatherer d.groups.owner ≡ b → list_any (nat_eq gatherer) (owners_of ds) ≡ false → (b || list_any (nat_eq gatherer) (owners_of ds)) ≡ false
+    by true is rest = absurd (no_gatherer pool d own.0 (sym (eqb-true gatherer d.groups.owner is)))
+    by false is rest = rest
+
+-- the query and the names of a cursor are over the table still
+pub over_moved : (table : Table) (to : ℕ) (c e : Cursor) → IsMoved to c e → IsOver table c → IsOver table e
+over_moved table to c e is over = record { query = subst (IsValidQuery table) (sym is.query) over.query; named = subst (All IsSegmentName) (sym is.segments) over.named }

@@ -184,6 +184,10 @@ module _ (table : Table) (files : Files) (texts : Texts) (m : Machine) (name : L
     stands_now news puts sound numbered = stands_with (cursors_in pool ds) news files texts table m name (record cursor { answered = to }) (cursor_in pool_new e) stands puts kept_now sound numbered
         (all_later (HasFile m) cursor.answered to cursor.lists next (stands.answered name cursor found.got)) (stands.lists name cursor found.got)
 
+-- a segment of these has no image, where files are told
+abbrev pub IsBadAt : Table → Option Files → List Stored → ℕ → Type 0
+IsBadAt table held stored n = (n < length stored) × IfSome held (λ files. HasNoImage table files (segment_at stored n))
+
 -- ---- a fault of the answer
 
 failed_by : {A : Type 0} (after : After A) (stands : Machine → Type 0) (live : Type 0) (why : ExecutorFault) → live

@@ -13,18 +13,12 @@ pub(crate) const MOST_CURSORS: usize = 16;
 pub(crate) fn place_of(cursors: &[Cursor], name: &str) -> Option<usize>
     ensures { result ≡ place_under name.now cursors.now }
 {
-    match cursors {
-        [] => None,
-        [first, rest @ ..] => {
-            if name == first.name.as_str() {
-                return Some(0);
-            }
-            match place_of(rest, name) {
-                Some(at) => Some(at + 1),
-                None => None,
-            }
+    'cursors: for at in 0..cursors.len() {
+        if name == cursors[at].name.as_str() {
+            return Some(at);
         }
     }
+    None
 }
 
 /// An owner of the groups of cursors that none of these has. There are fewer cursors than owners.

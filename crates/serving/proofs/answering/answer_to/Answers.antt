@@ -90,7 +90,7 @@ returns-in-Err-TooManyGroups-clause-refused g c = λ fault is real.
     let held = g.S.Shelf.held c.args.shelf.now in
     let gathered = subst (λ stored. IsGathered c.args.cursor.now.query c.args.table.now held stored c.gather.new.pool c.in-Ok.gathered) same c.in-Ok.ensures.gathered in
     let is_err : c.absorb-absorbed.result ≡ Err c.in-Err-TooManyGroups.field-0 = cc in
-    let full : c.absorb-absorbed.result ≡ Err table.TooManyGroups = is_err ∙ ap Err c.in-Err-TooManyGroups.field-0-is in
+    let full : c.absorb-absorbed.result ≡ Err table.TooManyGroups = subst (λ f. c.absorb-absorbed.result ≡ Err f) c.in-Err-TooManyGroups.field-0-is is_err in
     overfull_both c.args.pool.now c.args.cursor.now c.args.to c.requires.cursor c.requires.next.0 c.requires.next.1 c.args.table.now held c.gather.new.pool c.in-Ok.gathered gathered c.in-Ok.ensures.keeps
     c.requires.pool.0 (c.absorb-absorbed.ensures.full.0 full)
 
