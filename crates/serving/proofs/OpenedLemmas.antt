@@ -1,5 +1,5 @@
 -- A cursor is opened, as the machine does.
-use Rattle.std.proofs.Common.{◌≡◌, ◌≢◌, ◌∙◌, ◌+◌, ◌<◌, ◌≤◌, ◌||◌, ℕ, zero, suc, Bool, true, false, cond, nat_eq, nat_le, List, [], ◌∷◌, ◌++◌, filter, length, map, take, Option, Some, None, IfSome, Result, Ok, Err, refl, sym, ap, subst, arith, is_some, length-append}
+use Rattle.std.proofs.Common.{◌≡◌, ◌≢◌, ◌∙◌, ◌+◌, ◌*◌, ◌<◌, ◌≤◌, ◌||◌, ℕ, zero, suc, Bool, true, false, cond, nat_eq, nat_le, List, [], ◌∷◌, ◌++◌, drop, filter, length, map, take, Option, Some, None, IfSome, Result, Ok, Err, refl, sym, ap, subst, arith, is_some, length-append}
 use Rattle.std.specs.FinMap as finite
 use Rattle.std.specs.Cmp.{eq_by_cmp_equiv}
 use Rattle.std.specs.List.{AllByRecursion, IsDistinct, list_any}
@@ -14,7 +14,11 @@ use Rattle.outside.specs.Files.{Files, name_order}
 use Rattle.table_schema.specs.declared.query.BoundQuery.{BoundQuery}
 use Rattle.table_schema.specs.declared.table.Table.{Table}
 use Rattle.state_pool.specs.Pool.{Pool, held}
+use Rattle.group_table.specs.Kept.{IsTableOf, groups_in}
+use Rattle.group_table.specs.Pooled.{IsNewIn, IsTableIn, PooledTable, in_pool}
 use Rattle.group_table.proofs.SlotFrames.{push_apart}
+use Rattle.scan_engine.specs.Scanned.{HaveAtMost}
+use Rattle.serving.proofs.GatherLemmas.{new_fits}
 use Rattle.segment_file.specs.Names.{file_of}
 use Rattle.table_store.specs.Segments.{AreFirstNames}
 use Rattle.table_store.specs.Stands.{Stands}
@@ -252,3 +256,33 @@ module _ (table : Table) (pool new : Pool) (ds : List Cursor) (name : List ℕ) 
           by : (b : Bool) → nat_le 16 n ≡ b → b ≡ false
           by true is = absurd (let le = leb-true 16 n is in omega (arith, le, lt))
           by false is = refl
+
+-- ---- what a new cursor is made of
+
+files_there : (names : List (List ℕ)) → AllByRecursion (λ file. is_some file ≡ true) (map (λ name. Some (file_of name)) names)
+files_there [] = tt
+files_there (name ∷ names) = (refl, files_there names)
+
+pub made_new : (owner : ℕ) (query : BoundQuery) (segments : List (List ℕ)) (old new : Pool) (groups : PooledTable) (files : List (Option (List ℕ))) → IsNewIn query owner old new groups → owner < most_cursors → length segments ≤ 512
+    → files ≡ map (λ name. Some (file_of name)) segments → (e : Cursor) → e.query ≡ query → e.segments ≡ segments → e.answered ≡ 0 → e.files.items ≡ files → e.owner ≡ owner → e.groups ≡ groups → IsCursorIn new e
+made_new owner query segments old new groups files made below few are e q s none f o g = record {
+  owner = subst (λ (t : PooledTable). t.owner < 16) (sym g) (subst (λ n. n < 16) (sym made.owner_is) below);
+  owner_is = o ∙ sym made.owner_is ∙ ap (λ (t : PooledTable). t.owner) (sym g);
+  table = subst (λ (t : PooledTable). IsTableIn t new) (sym g) made.table_in;
+  of_query = subst (λ (t : PooledTable). IsTableOf e.query (in_pool t new)) (sym g) (subst (λ (q : BoundQuery). IsTableOf q (in_pool groups new)) (sym q) made.is_new.of_query);
+  fits = subst (λ (t : PooledTable). HaveAtMost (e.answered * 1048576) (groups_in (in_pool t new))) (sym g) (new_fits query _ (e.answered * 1048576) (in_pool groups new) made.is_new);
+  answered = omega (arith, none);
+  few = subst (λ ss. length ss ≤ 512) (sym s) few;
+  files = ap length (f ∙ are) ∙ length-map segments (λ name. Some (file_of name)) ∙ ap length (sym s);
+  there = subst (λ n. AllByRecursion (λ file. is_some file ≡ true) (drop n e.files.items)) (sym none) (subst (AllByRecursion (λ file. is_some file ≡ true)) (sym (f ∙ are)) (files_there segments));
+}
+
+-- an owner that no cursor says that it has
+pub owner_free : (pool : Pool) (ds : List Cursor) (owner : ℕ) → AllByRecursion (IsCursorIn pool) ds → list_any (λ (d : Cursor). nat_eq owner d.owner) ds ≡ false → list_any (nat_eq owner) (owners_of ds) ≡ false
+owner_free pool [] owner all is = is
+owner_free pool (d ∷ ds) owner all is = by (nat_eq owner d.owner) refl is (owner_free pool ds owner all.1)
+  where
+    by : (b : Bool) → nat_eq owner d.owner ≡ b → (b || list_any (λ (d : Cursor). nat_eq owner d.owner) ds) ≡ false → (list_any (λ (d : Cursor). nat_eq owner d.owner) ds ≡ false → list_any (nat_eq owner) (owners_of ds) ≡ false)
+        → (nat_eq owner d.groups.owner || list_any (nat_eq owner) (owners_of ds)) ≡ false
+    by true e is more = absurd cc
+    by false e is more = ap (λ b. b || list_any (nat_eq owner) (owners_of ds)) (ap (nat_eq owner) (sym all.0.owner_is) ∙ e) ∙ more is

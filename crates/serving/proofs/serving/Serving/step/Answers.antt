@@ -72,7 +72,7 @@ returns-in-Err-clause-serves g c =
     let held = g.S.Shelf.held c.args.shelf.now in
     let same : cursors_in c.answer_to.new.pool (set ds at e) ≡ cursors_in pool ds =
     ap (λ e. cursors_in c.answer_to.new.pool (set ds at e)) c.in-Err.ensures.same.0 ∙ ap (cursors_in c.answer_to.new.pool) (set_same ds at own own lt is) ∙ all_same pool c.answer_to.new.pool c.in-Err.ensures.same.1 ds c.requires.cursors.each in
-    let lefts : 0 < length own.segments - own.answered = (let n = c.if-left.false in let l = c.len-left.ensures in omega (arith, n, l)) in
+    let lefts : 0 < length own.segments - own.answered = (let n = c.if-left-eq0.false in let l = c.len-left.ensures in omega (arith, n, l)) in
     let serves : Serves (stepped name) c.args.table.now (cursors_in pool ds) (cursors_in pool ds) held held (Err (of_query c.in-Err.fault)) =
     steps_failed c.args.table.now pool ds name at own own place is held c.in-Err.fault lefts
     (λ f why real. c.in-Err.ensures.refused f (ap Err why) real)
