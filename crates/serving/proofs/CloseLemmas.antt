@@ -27,6 +27,10 @@ use Rattle.serving.specs.Kept.{same_name}
 
 -- ---- among some
 
+or_true : (a : Bool) → (a || true) ≡ true
+or_true true = refl
+or_true false = refl
+
 -- a kept list is one of some
 abbrev IsKeptOf : KeptList → List KeptList → Type 0
 IsKeptOf k [] = ⊥
@@ -62,10 +66,6 @@ passed_any : (p : KeptList → Bool) (k : KeptList) (kept : List KeptList) → I
 passed_any p k [] one is = absurd one
 passed_any p k (x ∷ kept) (inl same) is = ap (λ b. b || list_any p kept) (ap p same ∙ is)
 passed_any p k (x ∷ kept) (inr later) is = ap (λ b. p x || b) (passed_any p k kept later is) ∙ or_true (p x)
-  where
-    or_true : (a : Bool) → (a || true) ≡ true
-    or_true true = refl
-    or_true false = refl
 
 kept_filtered : (p : KeptList → Bool) (k : KeptList) (kept : List KeptList) → IsKeptOf k kept → p k ≡ true → IsKeptOf k (filter p kept)
 kept_filtered p k [] one is = one
@@ -86,23 +86,18 @@ filtered_kept p k (x ∷ kept) one = by (p x) refl one (filtered_kept p k kept)
     by true e (inr later) more = let m = more later in (inr m.0, m.1)
     by false e one more = let m = more one in (inr m.0, m.1)
 
+none_of : (x l : KeptList) (kept : List KeptList) → AllByRecursion (λ n. same_name (file_name x) n ≡ false) (map file_name kept) → IsKeptOf l kept → file_name x ≡ file_name l → ⊥
+none_of x l [] all one e = one
+none_of x l (y ∷ kept) all (inl same) e = false≢true (sym all.0 ∙ ap (same_name (file_name x)) (ap file_name same ∙ sym e) ∙ itself (file_name x))
+none_of x l (y ∷ kept) all (inr later) e = none_of x l kept all.1 later e
+
 -- kept lists of one name are one
 same_of : (k l : KeptList) (kept : List KeptList) → IsDistinct same_name (map file_name kept) → IsKeptOf k kept → IsKeptOf l kept → file_name k ≡ file_name l → k ≡ l
 unfolding IsDistinct
 same_of k l [] once p q e = absurd p
 same_of k l (x ∷ kept) once (inl p) (inl q) e = sym p ∙ q
 same_of k l (x ∷ kept) once (inl p) (inr q) e = absurd (none_of x l kept once.0 q (ap file_name p ∙ e))
-  where
-    none_of : (x l : KeptList) (kept : List KeptList) → AllByRecursion (λ n. same_name (file_name x) n ≡ false) (map file_name kept) → IsKeptOf l kept → file_name x ≡ file_name l → ⊥
-    none_of x l [] all one e = one
-    none_of x l (y ∷ kept) all (inl same) e = false≢true (sym all.0 ∙ ap (same_name (file_name x)) (ap file_name same ∙ sym e) ∙ itself (file_name x))
-    none_of x l (y ∷ kept) all (inr later) e = none_of x l kept all.1 later e
 same_of k l (x ∷ kept) once (inr p) (inl q) e = absurd (none_of x k kept once.0 p (ap file_name q ∙ sym e))
-  where
-    none_of : (x l : KeptList) (kept : List KeptList) → AllByRecursion (λ n. same_name (file_name x) n ≡ false) (map file_name kept) → IsKeptOf l kept → file_name x ≡ file_name l → ⊥
-    none_of x l [] all one e = one
-    none_of x l (y ∷ kept) all (inl same) e = false≢true (sym all.0 ∙ ap (same_name (file_name x)) (ap file_name same ∙ sym e) ∙ itself (file_name x))
-    none_of x l (y ∷ kept) all (inr later) e = none_of x l kept all.1 later e
 same_of k l (x ∷ kept) once (inr p) (inr q) e = same_of k l kept once.1 p q e
 
 -- ---- the files of kept lists
@@ -181,10 +176,6 @@ all_in (x ∷ xs) = (inl refl, all_so (λ y. IsOneOf y xs) (λ y. IsOneOf y (x �
 self_number : (n : ℕ) → nat_eq n n ≡ true
 self_number zero = refl
 self_number (suc n) = self_number n
-
-or_true : (a : Bool) → (a || true) ≡ true
-or_true true = refl
-or_true false = refl
 
 one_number : (x : Listed) (xs : List Listed) → IsOneOf x xs → has_number x.version.number xs ≡ true
 one_number x [] one = absurd one
