@@ -1,5 +1,5 @@
 -- The rows of segments that are gathered in a new table.
-use Rattle.std.proofs.Common.{◌≡◌, ◌≢◌, ◌∙◌, ◌<◌, ◌*◌, ◌-◌, ℕ, true, false, List, [], length, take, Option, Some, None, IfSome, Result, Ok, Err, sym, ap, subst, arith}
+use Rattle.std.proofs.Common.{◌≡◌, ◌≢◌, ◌∙◌, ◌<◌, ◌*◌, ◌-◌, ℕ, true, false, List, [], length, take, Option, Some, None, IfSome, Result, Ok, Err, refl, sym, ap, subst, arith}
 use Rattle.std.specs.Prelude.{OnErr, OnOk}
 use Rattle.std.specs.FinMap as finite
 use Rattle.std.proofs.lemmas.List.{take_all}
@@ -24,14 +24,19 @@ use Rattle.sql_reply.proofs.GroupLemmas.{none_fit}
 use Rattle.segment_reads.specs.Reads.{ReadsPlanned}
 use Rattle.segment_reads.proofs.GrownLemmas.{each_as}
 use Rattle.segment_reads.proofs.SpanLemmas.{planned_less}
-use Rattle.sql_reply.specs.declared.fault.SqlFault.TheVariants.{TooManyGroups}
+use Rattle.group_table.specs.declared.fault.TableFault.{TableFault}
+use Rattle.group_table.specs.declared.fault.TableFault.TheVariants as tables
+use Rattle.sql_reply.specs.declared.fault.SqlFault.{SqlFault}
+use Rattle.sql_reply.specs.declared.fault.SqlFault.TheVariants.{NoMemory, TooManyGroups}
 use Rattle.query_executor.specs.declared.fault.ExecutorFault.{ExecutorFault}
 use Rattle.query_executor.specs.declared.fault.ExecutorFault.TheVariants.{NotASegment, ReadFault, Sql}
 use Rattle.query_executor.proofs.EndLemmas.{Done, Failed, own_fault, reads_lacking, reads_still}
-use Rattle.query_executor.proofs.FaultLemmas.{text_not_bad_at, text_not_read_at}
+use Rattle.query_executor.proofs.FaultLemmas.{own_refusal, text_not_bad_at, text_not_read_at}
+use Rattle.query_executor.proofs.PassLemmas.{pass_lacking}
 use Rattle.query_executor.specs.Passes.{IsPassOver, PassReads, kept_by}
 use Rattle.query_executor.specs.Steps.{AddsFirst, AreOverfull}
 use Rattle.query_executor.specs.declared.pass.Pass.{Pass}
+use Rattle.serving.specs.Faults.{of_table}
 use Rattle.serving.specs.Gathered.{AddsAll, HaveTooMany, OverRows}
 
 pub ok_so : {T E : Type 0} (r : Result T E) (P Q : Type 0) → (P → Q) → OnOk r P → OnOk r Q
@@ -87,3 +92,14 @@ pass_full query table stored T U x n a b p = record {
   reads = tt;
   reads_of_fault = each_as (ReadsPlanned query table true) (ReadsPlanned query table false) table a.held stored (length stored) a.log b.log (planned_less query table) p.reads;
 }
+
+-- a fault of the table that was to take what was gathered
+pub pass_of : (query : BoundQuery) (table : Table) (stored : List Stored) (T U : Type 0) (x : T) (t : TableFault) (a b : Seen) → PassReads query table stored a b (Done {E = ExecutorFault} x)
+    → PassReads query table stored a b (Failed U (of_table t))
+pass_of query table stored T U x tables.TooManyGroups a b p = pass_full query table stored T U x 10000 a b p
+pass_of query table stored T U x tables.NoMemory a b p = pass_lacking query table stored T U x (Failed U (Sql NoMemory)) a b refl p
+
+-- which is that there are too many groups, if it is no want of memory
+pub full_of : (t : TableFault) (f : SqlFault) → of_table t ≡ Sql f → f ≢ NoMemory → t ≡ tables.TooManyGroups
+full_of tables.TooManyGroups f is real = refl
+full_of tables.NoMemory f is real = absurd (real (sym (own_refusal NoMemory f is)))

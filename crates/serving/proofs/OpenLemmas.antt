@@ -51,11 +51,11 @@ sorted_mapped : (f : Version → Segment) (es : List (List ℕ × Version)) → 
 sorted_mapped f [] = refl
 sorted_mapped f (e ∷ es) = λ i. below_mapped f e.0 es i && sorted_mapped f es i
 
-keys_mapped : (f : Version → Segment) (es : List (List ℕ × Version)) → map (λ e. e.0) (map (λ e. (e.0, f e.1)) es) ≡ map (λ e. e.0) es
+keys_mapped : (f : Version → Segment) (es : List (List ℕ × Version)) → map (λ (e : List ℕ × Segment). e.0) (map (λ (e : List ℕ × Version). (e.0, f e.1)) es) ≡ map (λ (e : List ℕ × Version). e.0) es
 keys_mapped f [] = refl
 keys_mapped f (e ∷ es) = ap (λ l. e.0 ∷ l) (keys_mapped f es)
 
-names_listed : (es : List (List ℕ × Version)) → names_in (map (λ e. record { name = e.0; version = e.1 }) es) ≡ map (λ e. e.0) es
+names_listed : (es : List (List ℕ × Version)) → names_in (map (λ (e : List ℕ × Version). record { name = e.0; version = e.1 }) es) ≡ map (λ (e : List ℕ × Version). e.0) es
 names_listed [] = refl
 names_listed (e ∷ es) = ap (λ l. e.0 ∷ l) (names_listed es)
 
@@ -66,7 +66,7 @@ keys_live lists =
     let entries : finite.entries (segments_of lists) ≡ own =
     same_entries name_order nat_list_cmp_total one_name (finite.entries (segments_of lists)) own (finite.entries_sorted (segments_of lists)) (subst T (sym (sorted_mapped segment_of (finite.entries lists))) (finite.entries_sorted lists))
     (λ q. sym (finite.get-entries (segments_of lists) q) ∙ finite.get-from_entries nat_list_cmp_total own q) in
-    ap (map (λ e. e.0)) entries ∙ keys_mapped segment_of (finite.entries lists) ∙ sym (names_listed (finite.entries lists))
+    ap (map (λ (e : List ℕ × Segment). e.0)) entries ∙ keys_mapped segment_of (finite.entries lists) ∙ sym (names_listed (finite.entries lists))
 
 module _ (serving : List OpenCursor) (files : Files) (texts : Texts) (table : Table) (m : Machine) (stands : ServingStands serving files texts table m) where
   -- the names that are told are those of the live lists

@@ -111,9 +111,9 @@ module _ (table : Table) (pool : Pool) (ds : List Cursor) (name : List ℕ) (que
   opens_many (Some files) all is many = λ texts m stands.
       let count = cursors_counted m pool ds all stands.cursors in
       let full : nat_le most_cursors (finite.len m.cursors) ≡ true = ap (nat_le most_cursors) count ∙ le-leb most_cursors (length ds) many in
-      let as : opened name query m ≡ refused machine.TooManyCursors m = opened_as name query m false (taken_as m stands.cursors ∙ is)
+      let goes : opened name query m ≡ refused machine.TooManyCursors m = opened_as name query m false (taken_as m stands.cursors ∙ is)
       ∙ ap (λ b. cond b (refused machine.TooManyCursors m) (record { answer = Ok (length (lists_of m.live)); machine = with_cursor name (record { query = query; lists = lists_of m.live; answered = 0 }) m })) full in
-      subst (λ (a : After ℕ). IsAnsweredAs a (ServingStands (cursors_in pool ds) files texts table) (Stands files (HasTable texts (segments_of m.live))) (Err fault.TooManyCursors)) (sym as) (refl, stands)
+      subst (λ (a : After ℕ). IsAnsweredAs a (ServingStands (cursors_in pool ds) files texts table) (Stands files (HasTable texts (segments_of m.live))) (Err fault.TooManyCursors)) (sym goes) (refl, stands)
 
   -- a device or memory failed
   pub opens_live : (held : Option Files) (news : List OpenCursor) (why : ServeFault) → ((after : After ℕ) (stands : Machine → Type 0) (live : Type 0) → live → IsAnsweredAs after stands live (Err why)) → Serves (opened name query) table (cursors_in pool ds) news held held (Err why)
@@ -232,11 +232,11 @@ module _ (table : Table) (pool new : Pool) (ds : List Cursor) (name : List ℕ) 
       let count : length segments ≡ length (lists_of m.live) = ap length named ∙ length-map (lists_of m.live) (λ listed. listed.name) in
       let counted = cursors_counted m pool ds all stands.cursors in
       let room : nat_le most_cursors (finite.len m.cursors) ≡ false = ap (nat_le most_cursors) counted ∙ not_full (length ds) few in
-      let as : opened name query m ≡ record { answer = Ok (length (lists_of m.live)); machine = with_cursor name cursor m } =
+      let goes : opened name query m ≡ record { answer = Ok (length (lists_of m.live)); machine = with_cursor name cursor m } =
       opened_as name query m false (taken_as table pool ds name query m stands.cursors ∙ ap is_some none)
       ∙ ap (λ b. cond b (refused machine.TooManyCursors m) (record { answer = Ok (length (lists_of m.live)); machine = with_cursor name cursor m })) room in
-      let sound : IsSound (with_cursor name cursor m) = subst (λ (a : After ℕ). IsSound a.machine) as (stays_sound 0 (Open name query) m stands.sound) in
-      let numbered : IsNumbered (with_cursor name cursor m) = subst (λ (a : After ℕ). IsNumbered a.machine) as (stays_numbered 0 (Open name query) m stands.sound stands.numbered) in
+      let sound : IsSound (with_cursor name cursor m) = subst (λ (a : After ℕ). IsSound a.machine) goes (stays_sound 0 (Open name query) m stands.sound) in
+      let numbered : IsNumbered (with_cursor name cursor m) = subst (λ (a : After ℕ). IsNumbered a.machine) goes (stays_numbered 0 (Open name query) m stands.sound stands.numbered) in
       let kept : IsKeptAs m cursor (cursor_in new e) = record {
         query = made.query_is;
         segments = made.segments_are ∙ named;
@@ -247,7 +247,7 @@ module _ (table : Table) (pool new : Pool) (ds : List Cursor) (name : List ℕ) 
       let puts : PutsUnder name (cursor_in new e) olds news = subst (PutsUnder name (cursor_in new e) olds)
       (sym (joined_map (cursor_in new) ds (e ∷ []) ∙ ap (λ l. l ++ cursor_in new e ∷ []) (rest_same pool new e e keeps_e ds others all.each)))
       (puts_last name (cursor_in new e) olds made.name_is (no_place pool name ds none)) in
-      subst (λ (a : After ℕ). IsAnsweredAs a (ServingStands news files texts table) (Stands files (HasTable texts (segments_of m.live))) (Ok (length segments))) (sym as)
+      subst (λ (a : After ℕ). IsAnsweredAs a (ServingStands news files texts table) (Stands files (HasTable texts (segments_of m.live))) (Ok (length segments))) (sym goes)
       (ap Ok (sym count), stands_with olds news files texts table m name cursor (cursor_in new e) stands puts kept sound numbered (live_filed olds files texts table m stands) (live_listed olds files texts table m stands))
     where
       not_full : (n : ℕ) → n < 16 → nat_le 16 n ≡ false

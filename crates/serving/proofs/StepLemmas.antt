@@ -235,9 +235,9 @@ module _ (table : Table) (pool : Pool) (ds : List Cursor) (name : List ℕ) (at 
       let found = found_in files texts m stands in
       let cursor = found.cursor in
       let left : left_of cursor ≡ 0 = left_as m found ∙ none in
-      let as : stepped name m ≡ record { answer = Ok 0; machine = m } =
+      let goes : stepped name m ≡ record { answer = Ok 0; machine = m } =
       ap (λ o. stepped_by name o m) found.got ∙ ap (λ n. cond (nat_eq n 0) (record { answer = Ok 0; machine = m }) (steps_left name cursor m (is_over cursor.query (next_rows cursor)))) left in
-      subst (λ (a : After ℕ). IsAnsweredAs a (ServingStands (cursors_in pool ds) files texts table) (Stands files (HasTable texts (segments_of m.live))) (Ok 0)) (sym as) (refl, stands)
+      subst (λ (a : After ℕ). IsAnsweredAs a (ServingStands (cursors_in pool ds) files texts table) (Stands files (HasTable texts (segments_of m.live))) (Ok 0)) (sym goes) (refl, stands)
 
   -- the next one is answered
   pub steps_moved : (held : Option Files) (pool_new : Pool) (e : Cursor) (news : List OpenCursor) → 0 < length c.segments - c.answered
@@ -255,10 +255,10 @@ module _ (table : Table) (pool : Pool) (ds : List Cursor) (name : List ℕ) (at 
       let within = within_now table files texts m name pool ds c (cursor.answered + 1) stands found next pool_new e answered_to moved_to it most in
       let over : is_over cursor.query (next_rows cursor) ≡ false = le-ltb most_cursor_groups _ within in
       let lefts : 0 < left_of cursor = subst (λ n. 0 < n) (sym (left_as m found)) left in
-      let as : stepped name m ≡ steps_left name cursor m false = steps_as m name cursor found.got lefts false over in
-      let sound : IsSound (moved name cursor (cursor.answered + 1) m) = subst (λ (a : After ℕ). IsSound a.machine) as (stays_sound 0 (Step name) m stands.sound) in
-      let numbered : IsNumbered (moved name cursor (cursor.answered + 1) m) = subst (λ (a : After ℕ). IsNumbered a.machine) as (stays_numbered 0 (Step name) m stands.sound stands.numbered) in
-      subst (λ (a : After ℕ). IsAnsweredAs a (ServingStands news files texts table) (Stands files (HasTable texts (segments_of m.live))) (Ok (length c.segments - c.answered - 1))) (sym as)
+      let goes : stepped name m ≡ steps_left name cursor m false = steps_as m name cursor found.got lefts false over in
+      let sound : IsSound (moved name cursor (cursor.answered + 1) m) = subst (λ (a : After ℕ). IsSound a.machine) goes (stays_sound 0 (Step name) m stands.sound) in
+      let numbered : IsNumbered (moved name cursor (cursor.answered + 1) m) = subst (λ (a : After ℕ). IsNumbered a.machine) goes (stays_numbered 0 (Step name) m stands.sound stands.numbered) in
+      subst (λ (a : After ℕ). IsAnsweredAs a (ServingStands news files texts table) (Stands files (HasTable texts (segments_of m.live))) (Ok (length c.segments - c.answered - 1))) (sym goes)
       (ap (λ n. Ok (n - 1)) (left_as m found), stands_now table files texts m name pool ds c (cursor.answered + 1) stands found next pool_new e answered_to moved_to news puts sound numbered)
 
   -- it is not answered, and the cursor is as it was
@@ -277,8 +277,8 @@ module _ (table : Table) (pool : Pool) (ds : List Cursor) (name : List ℕ) (at 
       (λ f is_sql real.
       let more = too_many table files texts m name pool ds c (c.answered + 1) stands found next (over f is_sql real) in
       let is_more : is_over cursor.query (next_rows cursor) ≡ true = ap (λ n. is_over cursor.query (rows_of (take n cursor.lists))) (sym to_is) ∙ lt-ltb most_cursor_groups _ more in
-      let as : stepped name m ≡ steps_left name cursor m true = steps_as m name cursor found.got lefts true is_more in
-      subst (λ (a : After ℕ). (a.answer ≡ Err machine.TooManyGroups) × ServingStands (cursors_in pool ds) files texts table a.machine) (sym as) (refl, stands))
+      let goes : stepped name m ≡ steps_left name cursor m true = steps_as m name cursor found.got lefts true is_more in
+      subst (λ (a : After ℕ). (a.answer ≡ Err machine.TooManyGroups) × ServingStands (cursors_in pool ds) files texts table a.machine) (sym goes) (refl, stands))
       (λ n part is_bad.
       let (lt, none) = bad n part is_bad in
       never_bad table files texts m name pool ds c (c.answered + 1) stands found next n lt none)
@@ -338,13 +338,13 @@ module _ (table : Table) (pool : Pool) (ds : List Cursor) (name : List ℕ) (at 
       let few : finite.len (all_groups cursor) ≤ most_cursor_groups = subst (λ (g : Groups). finite.len g ≤ most_cursor_groups) (rows_all m found)
       (within_now table files texts m name pool ds c all stands found next pool_new e answered_to moved_to it most) in
       let groups_are : groups_in (in_pool e.groups pool_new) ≡ all_groups cursor = groups_now table files texts m name pool ds c all stands found next pool_new e answered_to moved_to ∙ rows_all m found in
-      let as : fetched name m ≡ fetches_left name cursor m false = fetches_as m name cursor found.got false (le-ltb most_cursor_groups (finite.len (all_groups cursor)) few) in
+      let goes : fetched name m ≡ fetches_left name cursor m false = fetches_as m name cursor found.got false (le-ltb most_cursor_groups (finite.len (all_groups cursor)) few) in
       let same_query : e.query ≡ cursor.query = is_moved.query ∙ found.is.query in
       let is_text : text ≡ answer_text (answer_of (shape_of cursor.query) (all_groups cursor)) = text_of (shape_of cursor.query) (groups_in (in_pool e.groups pool_new)) (all_groups cursor) text groups_are few
       (ap (λ (q : BoundQuery). replied (reply_over most_groups (shape_of q) (groups_in (in_pool e.groups pool_new)))) (sym same_query) ∙ says) in
-      let sound : IsSound (moved name cursor all m) = subst (λ (a : After (List ℕ)). IsSound a.machine) as (stays_sound 0 (Fetch name) m stands.sound) in
-      let numbered : IsNumbered (moved name cursor all m) = subst (λ (a : After (List ℕ)). IsNumbered a.machine) as (stays_numbered 0 (Fetch name) m stands.sound stands.numbered) in
-      subst (λ (a : After (List ℕ)). IsAnsweredAs a (ServingStands news files texts table) (Stands files (HasTable texts (segments_of m.live))) (Ok text)) (sym as)
+      let sound : IsSound (moved name cursor all m) = subst (λ (a : After (List ℕ)). IsSound a.machine) goes (stays_sound 0 (Fetch name) m stands.sound) in
+      let numbered : IsNumbered (moved name cursor all m) = subst (λ (a : After (List ℕ)). IsNumbered a.machine) goes (stays_numbered 0 (Fetch name) m stands.sound stands.numbered) in
+      subst (λ (a : After (List ℕ)). IsAnsweredAs a (ServingStands news files texts table) (Stands files (HasTable texts (segments_of m.live))) (Ok text)) (sym goes)
       (ap Ok (sym is_text), stands_now table files texts m name pool ds c all stands found next pool_new e answered_to moved_to news puts sound numbered)
 
   -- they are not all answered, and the cursor is as it was
@@ -363,8 +363,8 @@ module _ (table : Table) (pool : Pool) (ds : List Cursor) (name : List ℕ) (at 
       let more = too_many table files texts m name pool ds c (length c.segments) stands found next (over f is_sql real) in
       let more_all : most_cursor_groups < finite.len (all_groups cursor) = subst (λ (g : Groups). most_cursor_groups < finite.len g) (rows_all m found)
       (subst (λ n. most_cursor_groups < finite.len (groups_of (shape_of cursor.query) (filter (λ row. all_hold row cursor.query.conjuncts) (rows_of (take n cursor.lists))))) to_is more) in
-      let as : fetched name m ≡ fetches_left name cursor m true = fetches_as m name cursor found.got true (lt-ltb most_cursor_groups (finite.len (all_groups cursor)) more_all) in
-      subst (λ (a : After (List ℕ)). (a.answer ≡ Err machine.TooManyGroups) × ServingStands (cursors_in pool ds) files texts table a.machine) (sym as) (refl, stands))
+      let goes : fetched name m ≡ fetches_left name cursor m true = fetches_as m name cursor found.got true (lt-ltb most_cursor_groups (finite.len (all_groups cursor)) more_all) in
+      subst (λ (a : After (List ℕ)). (a.answer ≡ Err machine.TooManyGroups) × ServingStands (cursors_in pool ds) files texts table a.machine) (sym goes) (refl, stands))
       (λ n part is_bad.
       let (lt, none) = bad n part is_bad in
       never_bad table files texts m name pool ds c (length c.segments) stands found next n lt none)

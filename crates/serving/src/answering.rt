@@ -9,6 +9,7 @@ ghost use Rattle.state_pool.specs.Pool.{held};
 ghost use Rattle.query_executor.specs.Passes.{PassReads};
 ghost use Rattle.query_executor.specs.declared.fault.ExecutorFault.TheVariants.{Sql};
 ghost use Rattle.serving.specs.Answered.{AnswersRows, IsMoved, IsOverfull, next_stored};
+ghost use Rattle.serving.specs.Faults.{of_table};
 ghost use Rattle.serving.specs.Gathered.{stored_in};
 ghost use Rattle.serving.specs.Kept.{IsCursorIn, IsOver, IsPool, KeepsAside, gatherer};
 
@@ -66,10 +67,17 @@ pub(crate) fn answer_to<S: Shelf>(
             cursor.answered = to;
             Ok(())
         }
-        Err(TableFault::TooManyGroups) => {
-            Err(ExecutorFault::Sql(SqlFault::TooManyGroups(MOST_GROUPS)))
-        }
-        Err(TableFault::NoMemory) => Err(ExecutorFault::Sql(SqlFault::NoMemory)),
+        Err(fault) => Err(fault_of(fault)),
+    }
+}
+
+// What the fault of a table of groups is for a query.
+fn fault_of(fault: TableFault) -> ExecutorFault
+    ensures { result ≡ of_table fault }
+{
+    match fault {
+        TableFault::TooManyGroups => ExecutorFault::Sql(SqlFault::TooManyGroups(MOST_GROUPS)),
+        TableFault::NoMemory => ExecutorFault::Sql(SqlFault::NoMemory),
     }
 }
 

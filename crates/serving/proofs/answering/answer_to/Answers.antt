@@ -9,9 +9,10 @@ use Rattle.query_executor.specs.declared.fault.ExecutorFault.TheVariants.{Sql}
 use Rattle.query_executor.proofs.EndLemmas.{Done, Failed, gives_fault, own_fault}
 use Rattle.query_executor.proofs.PassLemmas.{pass_done, pass_failed, pass_lacking, pass_unread}
 use Rattle.serving.specs.Answered.{next_stored}
+use Rattle.serving.specs.Faults.{of_table}
 use Rattle.serving.specs.Gathered.{HaveTooMany, IsGathered, stored_in}
 use Rattle.serving.specs.Kept.{IsCursorIn, KeepsAside, gatherer}
-use Rattle.serving.proofs.GatherLemmas.{err_value, pass_full}
+use Rattle.serving.proofs.GatherLemmas.{full_of, pass_of}
 use Rattle.serving.proofs.MovedLemmas.{answers_both, fits_all, moved_in, overfull_both, overfull_next, query_over, table_mid}
 use Rattle.serving.proofs.PlaceLemmas.{still_closed, still_cursor}
 use Rattle.serving.proofs.PoolLemmas.{aside_both, aside_first}
@@ -84,42 +85,28 @@ returns-in-Ok-absorbed-clause-stays g c =
     moved_in c.args.pool.now c.args.cursor.now c.args.to c.requires.cursor c.requires.next.0 c.requires.next.1 c.args.table.now held c.gather.new.pool c.in-Ok.gathered gathered c.in-Ok.ensures.keeps
     c.absorb-absorbed.new.self c.absorb-absorbed.new.pool c.close.new.pool c.in-Ok-absorbed.ensures.ok c.absorb-absorbed.ensures.stays c.close.ensures.keeps
 
-pub returns-in-Err-TooManyGroups-clause-refused : goal.returns-in-Err-TooManyGroups-clause-refused
-returns-in-Err-TooManyGroups-clause-refused g c = λ fault is real.
+pub returns-in-Err-absorbed-clause-refused : goal.returns-in-Err-absorbed-clause-refused
+returns-in-Err-absorbed-clause-refused g c = λ f is real.
     let same : c.as_slice-3.result.now ≡ next_stored c.args.cursor.now c.args.to = c.as_slice-3.ensures.value ∙ c.in_ok-stored.ensures ∙ (λ i. stored_in (take (c.args.to - c.args.cursor.now.answered) (drop c.args.cursor.now.answered (c.as_slice.ensures i))) (take (c.args.to - c.args.cursor.now.answered) (drop c.args.cursor.now.answered (c.as_slice-2.ensures.value i)))) in
     let held = g.S.Shelf.held c.args.shelf.now in
     let gathered = subst (λ stored. IsGathered c.args.cursor.now.query c.args.table.now held stored c.gather.new.pool c.in-Ok.gathered) same c.in-Ok.ensures.gathered in
-    let is_err : c.absorb-absorbed.result ≡ Err c.in-Err-TooManyGroups.field-0 = cc in
-    let full : c.absorb-absorbed.result ≡ Err table.TooManyGroups = subst (λ f. c.absorb-absorbed.result ≡ Err f) c.in-Err-TooManyGroups.field-0-is is_err in
+    let why : of_table c.in-Err-absorbed.fault ≡ Sql f = sym c.fault_of.ensures ∙ own_fault _ c.fault_of.result (Sql f) is in
     overfull_both c.args.pool.now c.args.cursor.now c.args.to c.requires.cursor c.requires.next.0 c.requires.next.1 c.args.table.now held c.gather.new.pool c.in-Ok.gathered gathered c.in-Ok.ensures.keeps
-    c.requires.pool.0 (c.absorb-absorbed.ensures.full.0 full)
+    c.requires.pool.0 (c.in-Err-absorbed.ensures.full.0 (ap Err (full_of c.in-Err-absorbed.fault f why real)))
 
-pub returns-in-Err-TooManyGroups-clause-passes : goal.returns-in-Err-TooManyGroups-clause-passes
-returns-in-Err-TooManyGroups-clause-passes g c =
+pub returns-in-Err-absorbed-clause-passes : goal.returns-in-Err-absorbed-clause-passes
+returns-in-Err-absorbed-clause-passes g c =
     let same : c.as_slice-3.result.now ≡ next_stored c.args.cursor.now c.args.to = c.as_slice-3.ensures.value ∙ c.in_ok-stored.ensures ∙ (λ i. stored_in (take (c.args.to - c.args.cursor.now.answered) (drop c.args.cursor.now.answered (c.as_slice.ensures i))) (take (c.args.to - c.args.cursor.now.answered) (drop c.args.cursor.now.answered (c.as_slice-2.ensures.value i)))) in
     let a : Seen = seen g.S.Shelf c.args.shelf.now in
     let b : Seen = seen g.S.Shelf c.gather.new.shelf in
-    pass_full c.args.cursor.now.query c.args.table.now (next_stored c.args.cursor.now c.args.to) _ _ c.in-Ok.gathered 10000 a b
-    (subst (λ stored. PassReads c.args.cursor.now.query c.args.table.now stored a b (Done c.in-Ok.gathered)) same c.in-Ok.ensures.passes)
+    let query = c.args.cursor.now.query in
+    let next = next_stored c.args.cursor.now c.args.to in
+    subst (λ why. PassReads query c.args.table.now next a b (Failed _ why)) (sym c.fault_of.ensures)
+    (pass_of query c.args.table.now next _ _ c.in-Ok.gathered c.in-Err-absorbed.fault a b
+    (subst (λ stored. PassReads query c.args.table.now stored a b (Done c.in-Ok.gathered)) same c.in-Ok.ensures.passes))
 
-pub returns-in-Err-TooManyGroups-clause-stays : goal.returns-in-Err-TooManyGroups-clause-stays
-returns-in-Err-TooManyGroups-clause-stays g c =
-    let full : c.absorb-absorbed.result ≡ Err c.in-Err-TooManyGroups.field-0 = cc in
-    let err = err_value c.absorb-absorbed.result c.in-Err-TooManyGroups.field-0 _ full c.absorb-absorbed.ensures.err in
-    still_closed c.args.pool.now c.gather.new.pool c.absorb-absorbed.new.pool c.close.new.pool c.in-Ok.gathered.owner c.in-Ok.ensures.gathered.owner c.in-Ok.ensures.keeps err.1 c.close.ensures.keeps
-    c.args.cursor.now c.requires.cursor c.absorb-absorbed.new.self err.0
-
-pub returns-clause-passes : goal.returns-clause-passes
-returns-clause-passes g c =
-    let same : c.as_slice-3.result.now ≡ next_stored c.args.cursor.now c.args.to = c.as_slice-3.ensures.value ∙ c.in_ok-stored.ensures ∙ (λ i. stored_in (take (c.args.to - c.args.cursor.now.answered) (drop c.args.cursor.now.answered (c.as_slice.ensures i))) (take (c.args.to - c.args.cursor.now.answered) (drop c.args.cursor.now.answered (c.as_slice-2.ensures.value i)))) in
-    let a : Seen = seen g.S.Shelf c.args.shelf.now in
-    let b : Seen = seen g.S.Shelf c.gather.new.shelf in
-    pass_lacking c.args.cursor.now.query c.args.table.now (next_stored c.args.cursor.now c.args.to) _ _ c.in-Ok.gathered (Err (Sql NoMemory)) a b refl
-    (subst (λ stored. PassReads c.args.cursor.now.query c.args.table.now stored a b (Done c.in-Ok.gathered)) same c.in-Ok.ensures.passes)
-
-pub returns-clause-stays : goal.returns-clause-stays
-returns-clause-stays g c =
-    let full : c.absorb-absorbed.result ≡ Err c.in-Err-NoMemory.field-0 = cc in
-    let err = err_value c.absorb-absorbed.result c.in-Err-NoMemory.field-0 _ full c.absorb-absorbed.ensures.err in
+pub returns-in-Err-absorbed-clause-stays : goal.returns-in-Err-absorbed-clause-stays
+returns-in-Err-absorbed-clause-stays g c =
+    let err = c.in-Err-absorbed.ensures.err in
     still_closed c.args.pool.now c.gather.new.pool c.absorb-absorbed.new.pool c.close.new.pool c.in-Ok.gathered.owner c.in-Ok.ensures.gathered.owner c.in-Ok.ensures.keeps err.1 c.close.ensures.keeps
     c.args.cursor.now c.requires.cursor c.absorb-absorbed.new.self err.0
