@@ -21,7 +21,7 @@ use Rattle.cursor_serve.specs.Sound.{IsAmong, IsKeptWell, IsSound}
 use Rattle.cursor_serve.specs.ServingStands.{BothKept, HasFile, HasList, IsKeptAs, IsListOf, OpenCursor, ServingStands, first_of, is_live_by, kept_files, kept_under, segments_of, stands_as}
 use Rattle.cursor_serve.proofs.FetchLemmas.{itself, tied}
 use Rattle.cursor_serve.proofs.NumberedLemmas.{stays_numbered}
-use Rattle.cursor_serve.proofs.SoundLemmas.{HasOwn, all_both, all_drop, all_own, all_so, any_found, held_by, stays_sound, took_cases}
+use Rattle.cursor_serve.proofs.SoundLemmas.{all_both, all_drop, all_so, any_found, held_by, same_number, took_cases}
 use Rattle.serving.specs.Closed.{has_file, is_file}
 use Rattle.serving.specs.Kept.{same_name}
 
@@ -112,15 +112,11 @@ of_number k (x ∷ kept) once one = by (nat_eq x.listed.version.number k.listed.
     apart (y ∷ kept) all (inl same) is = false≢true (sym all.0 ∙ ap (λ (k : KeptList). nat_eq x.listed.version.number k.listed.version.number) same ∙ is)
     apart (y ∷ kept) all (inr later) is = apart kept all.1 later is
 
-    self : (n : ℕ) → nat_eq n n ≡ true
-    self zero = refl
-    self (suc n) = self n
-
     by : (b : Bool) → nat_eq x.listed.version.number k.listed.version.number ≡ b → (x ≡ k) ⊎ IsKeptOf k kept → (IsKeptOf k kept → first_of (kept_files k.listed.version.number kept) ≡ Some (file_name k))
         → first_of (map file_name (cond b (x ∷ filter (λ k'. nat_eq k'.listed.version.number k.listed.version.number) kept) (filter (λ k'. nat_eq k'.listed.version.number k.listed.version.number) kept))) ≡ Some (file_name k)
     by true e (inl same) more = ap (λ k. Some (file_name k)) same
     by true e (inr later) more = absurd (apart kept once.0 later e)
-    by false e (inl same) more = absurd (false≢true (sym e ∙ ap (λ (x : KeptList). nat_eq x.listed.version.number k.listed.version.number) same ∙ self k.listed.version.number))
+    by false e (inl same) more = absurd (false≢true (sym e ∙ ap (λ (x : KeptList). nat_eq x.listed.version.number k.listed.version.number) same ∙ same_number k.listed.version.number))
     by false e (inr later) more = more later
 
 record IsFileOf (f : List ℕ) (number : ℕ) (kept : List KeptList) : Type 0 where
@@ -173,13 +169,9 @@ all_in : (xs : List Listed) → AllByRecursion (λ x. IsOneOf x xs) xs
 all_in [] = tt
 all_in (x ∷ xs) = (inl refl, all_so (λ y. IsOneOf y xs) (λ y. IsOneOf y (x ∷ xs)) (λ y one. inr one) xs (all_in xs))
 
-self_number : (n : ℕ) → nat_eq n n ≡ true
-self_number zero = refl
-self_number (suc n) = self_number n
-
 one_number : (x : Listed) (xs : List Listed) → IsOneOf x xs → has_number x.version.number xs ≡ true
 one_number x [] one = absurd one
-one_number x (y ∷ xs) (inl same) = ap (λ b. b || has_number x.version.number xs) (ap (λ (l : Listed). nat_eq l.version.number x.version.number) same ∙ self_number x.version.number)
+one_number x (y ∷ xs) (inl same) = ap (λ b. b || has_number x.version.number xs) (ap (λ (l : Listed). nat_eq l.version.number x.version.number) same ∙ same_number x.version.number)
 one_number x (y ∷ xs) (inr later) = ap (λ b. nat_eq y.version.number x.version.number || b) (one_number x xs later) ∙ or_true (nat_eq y.version.number x.version.number)
 
 has_mapped : (m : Machine) (f : List ℕ) (x : Listed) (xs : List Listed) → IsOneOf x xs → stands_as m x ≡ Some f → has_file f (map (stands_as m) xs) ≡ true

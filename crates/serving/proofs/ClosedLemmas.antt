@@ -42,7 +42,7 @@ closes_none table pool ds name (Some files) none = λ texts m stands.
 
 -- ---- by index and by name
 
-names_of : List Cursor → List (List ℕ)
+abbrev names_of : List Cursor → List (List ℕ)
 names_of ds = map (λ (d : Cursor). d.name) ds
 
 other_of : (n : List ℕ) (ds : List Cursor) (i : ℕ) (d : Cursor) → AllByRecursion (λ m. same_name n m ≡ false) (names_of ds) → slice_get ds i ≡ Some d → same_name n d.name ≡ false
@@ -118,18 +118,21 @@ module _ (old new : Pool) (c : Cursor) (keeps : KeepsAside c.groups.owner gather
   long_out (d ∷ ds) (suc at) place = ap suc (long_out ds at place.1)
 
 all_out : {X : Type 0} (P : X → Type 0) (xs : List X) (at : ℕ) → AllByRecursion P xs → AllByRecursion P (remove xs at)
-all_out P [] at all = tt
+all_out P [] zero all = tt
+all_out P [] (suc at) all = tt
 all_out P (x ∷ xs) zero all = all.1
 all_out P (x ∷ xs) (suc at) all = (all.0, all_out P xs at all.1)
 
 map_out : {X Y : Type 0} (f : X → Y) (xs : List X) (at : ℕ) → map f (remove xs at) ≡ remove (map f xs) at
-map_out f [] at = refl
+map_out f [] zero = refl
+map_out f [] (suc at) = refl
 map_out f (x ∷ xs) zero = refl
 map_out f (x ∷ xs) (suc at) = ap (λ l. f x ∷ l) (map_out f xs at)
 
 once_out : {X : Type 0} (eq : X → X → Bool) (xs : List X) (at : ℕ) → IsDistinct eq xs → IsDistinct eq (remove xs at)
 unfolding IsDistinct
-once_out eq [] at once = tt
+once_out eq [] zero once = tt
+once_out eq [] (suc at) once = tt
 once_out eq (x ∷ xs) zero once = once.1
 once_out eq (x ∷ xs) (suc at) once = (all_out (λ y. eq x y ≡ false) xs at once.0, once_out eq xs at once.1)
 

@@ -95,7 +95,7 @@ more_gone at cursors files None old mid new (names, of, is) released =
   where
     by : (name : List ℕ) → IsGone at cursors name → (has_file name files ≡ true) ⊎ (false ≡ true) → list_any (same_name name) names ≡ true
     by name gone (inl had) = of.all name had gone
-    by name gone (inr no) = absurd (false≢true no)
+    by name gone (inr wrong) = absurd (false≢true wrong)
 more_gone at cursors files (Some file) old mid new (names, of, is) (inl kept) =
     (names, record { each = of.each; all = λ name has gone. by name gone (or_either (has_file name files) (same_name name file) (sym (any_joined (is_file name) files (Some file)) ∙ has)) }, kept.1 ∙ is)
   where

@@ -3,6 +3,7 @@ use Rattle.std.proofs.Common.{◌≡◌, ◌≢◌, ◌∙◌, ◌+◌, ◌-◌,
 use Rattle.std.specs.Prelude.{OnOk, if◌then◌else◌}
 use Rattle.std.specs.FinMap as finite
 use Rattle.std.specs.List.{AllByRecursion, AllZip}
+use borrow.Author.Tests.{eqb-true}
 use Rattle.std.proofs.lemmas.Bool.{false≢true, le-ltb, lt-ltb}
 use Rattle.std.proofs.lemmas.Grind.{flat_map-append}
 use Rattle.std.proofs.lemmas.List.{drop-map, length-map, take-map, take_all}
@@ -63,12 +64,12 @@ all_later P (suc a) zero xs le all = absurd (omega (arith, le))
 all_later P (suc a) (suc b) [] le all = tt
 all_later P (suc a) (suc b) (x ∷ xs) le all = all_later P a b xs (omega (arith, le)) all
 
-take_none : {X : Type 0} (n : ℕ) → take n ([] {A = X}) ≡ []
+take_none : {X : Type 0} (n : ℕ) → take {A = X} n [] ≡ []
 take_none zero = refl
 take_none (suc n) = refl
 
 take_next : {X : Type 0} (a b : ℕ) (xs : List X) → a ≤ b → take a xs ++ take (b - a) (drop a xs) ≡ take b xs
-take_next zero b xs le = refl
+take_next zero b xs le = let same : b - 0 ≡ b = omega arith in ap (λ n. take n xs) same
 take_next (suc a) zero xs le = absurd (omega (arith, le))
 take_next (suc a) (suc b) [] le = take_none (suc b - suc a)
 take_next (suc a) (suc b) (x ∷ xs) le =
@@ -153,13 +154,13 @@ module _ (table : Table) (files : Files) (texts : Texts) (m : Machine) (name : L
   -- the groups would be too many
   pub too_many : IsOverfull table (Some files) (next_stored c to) pool c → most_cursor_groups < finite.len (groups_of (shape_of cursor.query) (filter (λ row. all_hold row cursor.query.conjuncts) (rows_of (take to cursor.lists))))
   too_many over =
-      let own = of_next _ (over (rows_of (take cursor.answered cursor.lists)) had_rows) in
+      let own = of_next (λ rows. most_cursor_groups < finite.len (groups_of (shape_of c.query) (selected c.query (rows_of (take cursor.answered cursor.lists) ++ rows)))) (over (rows_of (take cursor.answered cursor.lists)) had_rows) in
       subst (λ (q : BoundQuery). most_cursor_groups < finite.len (groups_of (shape_of q) (selected q (rows_of (take to cursor.lists))))) found.is.query
       (subst (λ rows. most_cursor_groups < finite.len (groups_of (shape_of c.query) (selected c.query rows))) rows_next own)
 
   module _ (pool_new : Pool) (e : Cursor) (answered : AnswersRows table (Some files) (next_stored c to) pool pool_new c e) (is_moved : IsMoved to c e) where
     has_rows : HasRows pool_new e (rows_of (take to cursor.lists))
-    has_rows = of_next _ (answered (rows_of (take cursor.answered cursor.lists)) had_rows) ∙ ap (λ rows. groups_of (shape_of e.query) (selected e.query rows)) rows_next
+    has_rows = of_next (λ rows. HasRows pool_new e (rows_of (take cursor.answered cursor.lists) ++ rows)) (answered (rows_of (take cursor.answered cursor.lists)) had_rows) ∙ ap (λ rows. groups_of (shape_of e.query) (selected e.query rows)) rows_next
 
     pub groups_now : groups_in (in_pool e.groups pool_new) ≡ groups_of (shape_of cursor.query) (filter (λ row. all_hold row cursor.query.conjuncts) (rows_of (take to cursor.lists)))
     groups_now = has_rows ∙ ap (λ (q : BoundQuery). groups_of (shape_of q) (selected q (rows_of (take to cursor.lists)))) (is_moved.query ∙ found.is.query)
@@ -212,7 +213,11 @@ steps_left name cursor m over = cond over (record { answer = Err machine.TooMany
 
 some_left : (left : ℕ) → 0 < left → nat_eq left 0 ≡ false
 some_left zero lt = absurd (omega (arith, lt))
-some_left (suc n) lt = refl
+some_left (suc n) lt = by (nat_eq (suc n) 0) refl
+  where
+    by : (b : Bool) → nat_eq (suc n) 0 ≡ b → b ≡ false
+    by true e = absurd (let same = eqb-true (suc n) 0 e in omega (arith, same))
+    by false e = refl
 
 steps_as : (m : Machine) (name : List ℕ) (cursor : Kept) → finite.get m.cursors name ≡ Some cursor → 0 < left_of cursor
     → (b : Bool) → is_over cursor.query (next_rows cursor) ≡ b → stepped name m ≡ steps_left name cursor m b

@@ -3,6 +3,7 @@ ghost use Rattle.std.specs.Prelude.{◌≡◌, ◌≢◌, ◌⊎◌, ◌<◌, Li
 ghost use Rattle.std.specs.List.{AllByRecursion};
 ghost use Rattle.table_store.specs.Kept.{IsKeptName};
 ghost use Rattle.outside.specs.Files.{without_file};
+ghost use Rattle.serving.specs.Closed as closed;
 ghost use Rattle.serving.specs.Closed.{AreGone, HasNoOther, IsGone, IsReleased, has_file, without_files};
 
 use crate::cursor::Cursor;
@@ -76,15 +77,15 @@ fn has_other(cursors: &[Cursor], at: usize, name: &Name) -> bool
 fn holds_file(files: &[Option<Name>], name: &Name) -> bool
     ensures { result ≡ has_file name.now files.now }
 {
-    match files {
-        [] => false,
-        [first, rest @ ..] => {
-            if let Some(file) = first {
-                if name.as_str() == file.as_str() {
-                    return true;
-                }
-            }
-            holds_file(rest, name)
-        }
+    files.iter().any(|file| is_file(file, name))
+}
+
+// Whether this is the name of a file.
+fn is_file(file: &Option<Name>, name: &Name) -> bool
+    ensures { result ≡ closed.is_file name.now file.now }
+{
+    match file {
+        Some(file) => name.as_str() == file.as_str(),
+        None => false,
     }
 }

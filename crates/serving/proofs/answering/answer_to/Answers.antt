@@ -85,8 +85,8 @@ returns-in-Ok-absorbed-clause-stays g c =
     moved_in c.args.pool.now c.args.cursor.now c.args.to c.requires.cursor c.requires.next.0 c.requires.next.1 c.args.table.now held c.gather.new.pool c.in-Ok.gathered gathered c.in-Ok.ensures.keeps
     c.absorb-absorbed.new.self c.absorb-absorbed.new.pool c.close.new.pool c.in-Ok-absorbed.ensures.ok c.absorb-absorbed.ensures.stays c.close.ensures.keeps
 
-pub returns-in-Err-absorbed-clause-refused : goal.returns-in-Err-absorbed-clause-refused
-returns-in-Err-absorbed-clause-refused g c = λ f is real.
+pub returns-clause-refused : goal.returns-clause-refused
+returns-clause-refused g c = λ f is real.
     let same : c.as_slice-3.result.now ≡ next_stored c.args.cursor.now c.args.to = c.as_slice-3.ensures.value ∙ c.in_ok-stored.ensures ∙ (λ i. stored_in (take (c.args.to - c.args.cursor.now.answered) (drop c.args.cursor.now.answered (c.as_slice.ensures i))) (take (c.args.to - c.args.cursor.now.answered) (drop c.args.cursor.now.answered (c.as_slice-2.ensures.value i)))) in
     let held = g.S.Shelf.held c.args.shelf.now in
     let gathered = subst (λ stored. IsGathered c.args.cursor.now.query c.args.table.now held stored c.gather.new.pool c.in-Ok.gathered) same c.in-Ok.ensures.gathered in
@@ -94,8 +94,8 @@ returns-in-Err-absorbed-clause-refused g c = λ f is real.
     overfull_both c.args.pool.now c.args.cursor.now c.args.to c.requires.cursor c.requires.next.0 c.requires.next.1 c.args.table.now held c.gather.new.pool c.in-Ok.gathered gathered c.in-Ok.ensures.keeps
     c.requires.pool.0 (c.in-Err-absorbed.ensures.full.0 (ap Err (full_of c.in-Err-absorbed.fault f why real)))
 
-pub returns-in-Err-absorbed-clause-passes : goal.returns-in-Err-absorbed-clause-passes
-returns-in-Err-absorbed-clause-passes g c =
+pub returns-clause-passes : goal.returns-clause-passes
+returns-clause-passes g c =
     let same : c.as_slice-3.result.now ≡ next_stored c.args.cursor.now c.args.to = c.as_slice-3.ensures.value ∙ c.in_ok-stored.ensures ∙ (λ i. stored_in (take (c.args.to - c.args.cursor.now.answered) (drop c.args.cursor.now.answered (c.as_slice.ensures i))) (take (c.args.to - c.args.cursor.now.answered) (drop c.args.cursor.now.answered (c.as_slice-2.ensures.value i)))) in
     let a : Seen = seen g.S.Shelf c.args.shelf.now in
     let b : Seen = seen g.S.Shelf c.gather.new.shelf in
@@ -105,8 +105,8 @@ returns-in-Err-absorbed-clause-passes g c =
     (pass_of query c.args.table.now next _ _ c.in-Ok.gathered c.in-Err-absorbed.fault a b
     (subst (λ stored. PassReads query c.args.table.now stored a b (Done c.in-Ok.gathered)) same c.in-Ok.ensures.passes))
 
-pub returns-in-Err-absorbed-clause-stays : goal.returns-in-Err-absorbed-clause-stays
-returns-in-Err-absorbed-clause-stays g c =
+pub returns-clause-stays : goal.returns-clause-stays
+returns-clause-stays g c =
     let err = c.in-Err-absorbed.ensures.err in
     still_closed c.args.pool.now c.gather.new.pool c.absorb-absorbed.new.pool c.close.new.pool c.in-Ok.gathered.owner c.in-Ok.ensures.gathered.owner c.in-Ok.ensures.keeps err.1 c.close.ensures.keeps
     c.args.cursor.now c.requires.cursor c.absorb-absorbed.new.self err.0

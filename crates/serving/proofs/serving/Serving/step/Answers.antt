@@ -72,7 +72,7 @@ returns-in-Err-clause-serves g c =
     let held = g.S.Shelf.held c.args.shelf.now in
     let same : cursors_in c.answer_to.new.pool (set ds at e) ≡ cursors_in pool ds =
     ap (λ e. cursors_in c.answer_to.new.pool (set ds at e)) c.in-Err.ensures.same.0 ∙ ap (cursors_in c.answer_to.new.pool) (set_same ds at own own lt is) ∙ all_same pool c.answer_to.new.pool c.in-Err.ensures.same.1 ds c.requires.cursors.each in
-    let lefts : 0 < length own.segments - own.answered = (let n = c.if-left-eq0.false in let l = c.len-left.ensures in omega (arith, n, l)) in
+    let lefts : 0 < length own.segments - own.answered = (let n = c.if-left-eq0.false in let l = c.len.ensures in omega (arith, n, l)) in
     let serves : Serves (stepped name) c.args.table.now (cursors_in pool ds) (cursors_in pool ds) held held (Err (of_query c.in-Err.fault)) =
     steps_failed c.args.table.now pool ds name at own own place is held c.in-Err.fault lefts
     (λ f why real. c.in-Err.ensures.refused f (ap Err why) real)
@@ -107,7 +107,7 @@ overflow_cast-left g c =
     let lt : at < length ds = place_within name ds at place in
     let is : get_or ds at own ≡ own = sym c.index_mut-own.ensures.value in
     let it : IsCursorIn pool own = each_at (IsCursorIn pool) ds at own own lt is c.requires.cursors.each in
-    let long = c.len-left.ensures in
+    let long = c.len.ensures in
     let few = it.few in
     omega (arith, long, few)
 
@@ -122,7 +122,7 @@ overflow_sub-left g c =
     let lt : at < length ds = place_within name ds at place in
     let is : get_or ds at own ≡ own = sym c.index_mut-own.ensures.value in
     let it : IsCursorIn pool own = each_at (IsCursorIn pool) ds at own own lt is c.requires.cursors.each in
-    let long = c.len-left.ensures in
+    let long = c.len.ensures in
     let le = it.answered in
     omega (arith, long, le)
 
@@ -152,7 +152,7 @@ returns-then-left-eq0-clause-serves g c =
     let lt : at < length ds = place_within name ds at place in
     let is : get_or ds at own ≡ own = sym c.index_mut-own.ensures.value in
     let it : IsCursorIn pool own = each_at (IsCursorIn pool) ds at own own lt is c.requires.cursors.each in
-    let none : length own.segments - own.answered ≡ 0 = (let n = c.if-left-eq0.true in let l = c.len-left.ensures in omega (arith, n, l)) in
+    let none : length own.segments - own.answered ≡ 0 = (let n = c.if-left-eq0.true in let l = c.len.ensures in omega (arith, n, l)) in
     subst (λ l. Serves (stepped name) c.args.table.now (cursors_in pool ds) (cursors_in pool l) (g.S.Shelf.held c.args.shelf.now) (g.S.Shelf.held c.args.shelf.now) (Ok 0)) (sym (set_same ds at own own lt is))
     (steps_not c.args.table.now pool ds name at own own place is (g.S.Shelf.held c.args.shelf.now) none)
 
@@ -174,11 +174,11 @@ returns-in-Ok-clause-serves g c =
     let held = g.S.Shelf.held c.args.shelf.now in
     let news = cursors_moved pool new own e c.in-Ok.ensures.keeps ds at placed c.requires.cursors c.in-Ok.ensures.stays m.name m.owner c.in-Ok.ensures.closed in
     let most : e.groups.most ≡ 10000 = c.in-Ok.ensures.stays.table.holds.quota ∙ news.pool_is.quotas e.groups.owner (let lt = c.in-Ok.ensures.stays.owner in omega (arith, lt)) in
-    let lefts : 0 < length own.segments - own.answered = (let n = c.if-left-eq0.false in let l = c.len-left.ensures in omega (arith, n, l)) in
+    let lefts : 0 < length own.segments - own.answered = (let n = c.if-left-eq0.false in let l = c.len.ensures in omega (arith, n, l)) in
     let serves = steps_moved c.args.table.now pool ds name at own own place is held new e (cursors_in new (set ds at e)) lefts c.in-Ok.ensures.answered m c.in-Ok.ensures.stays most
     (puts_moved pool new own e c.in-Ok.ensures.keeps name ds at place placed c.requires.cursors.each m.name) in
     subst (λ h. Serves (stepped name) c.args.table.now (cursors_in pool ds) (cursors_in new (set ds at e)) held h (Ok _)) (sym c.in-Ok.ensures.passes.only_reads.held)
-    (subst (λ n. Serves (stepped name) c.args.table.now (cursors_in pool ds) (cursors_in new (set ds at e)) held held (Ok (n - own.answered - 1))) (sym c.len-left.ensures) serves)
+    (subst (λ n. Serves (stepped name) c.args.table.now (cursors_in pool ds) (cursors_in new (set ds at e)) held held (Ok (n - own.answered - 1))) (sym c.len.ensures) serves)
 
 pub returns-in-Ok-clause-cursors : goal.returns-in-Ok-clause-cursors
 returns-in-Ok-clause-cursors g c =
