@@ -1,5 +1,5 @@
 -- A cursor at a place is out, as the machine has it.
-use Rattle.std.proofs.Common.{◌≡◌, ◌≢◌, ◌∙◌, ◌+◌, ◌<◌, ◌≤◌, ◌||◌, ℕ, zero, suc, Bool, true, false, cond, nat_eq, List, [], ◌∷◌, ◌++◌, length, map, get_or, Option, Some, None, IfSome, Ok, Err, refl, sym, ap, subst, arith, slice_get}
+use Rattle.std.proofs.Common.{◌≡◌, ◌≢◌, ◌∙◌, ◌+◌, ◌<◌, ◌≤◌, ◌||◌, ◌⊎◌, inl, inr, ℕ, zero, suc, Bool, true, false, cond, nat_eq, List, [], ◌∷◌, ◌++◌, length, map, get_or, Option, Some, None, IfSome, Ok, Err, refl, sym, ap, subst, arith, slice_get}
 use Rattle.std.specs.FinMap as finite
 use Rattle.std.specs.List.{AllByRecursion, IsDistinct, list_any, remove}
 use borrow.Author.Tests.{eqb-true, eqb-false}
@@ -11,6 +11,11 @@ use Rattle.state_pool.specs.Pool.{Pool, held}
 use Rattle.group_table.specs.Pooled.{KeepsOthers}
 use Rattle.table_store.specs.Kept.{IsKeptName}
 use Rattle.table_store.specs.Stands.{KeptIdle, Stands}
+use Rattle.table_store.specs.declared.fault.StoreFault.{StoreFault}
+use Rattle.table_store.specs.declared.fault.StoreFault.TheVariants as store
+use Rattle.query_executor.proofs.EndLemmas.{Failed, own_fault}
+use Rattle.serving.specs.Faults.{of_store}
+use Rattle.std.specs.Option.{option_map}
 use Rattle.table_store.specs.State.{HasTable, Texts}
 use Rattle.cursor_serve.specs.Machine as machine
 use Rattle.cursor_serve.specs.Machine.{After, Close, Cursor as Kept, Machine, closed, closed_by}
@@ -28,7 +33,7 @@ use Rattle.serving.specs.declared.fault.ServeFault.{ServeFault}
 use Rattle.serving.specs.declared.fault.ServeFault.TheVariants as fault
 use Rattle.serving.proofs.CloseLemmas.{TakesUnder, closes_stand}
 use Rattle.serving.proofs.GoneLemmas.{gone_kept, left_got, left_of, left_stands, without_told}
-use Rattle.serving.proofs.PlaceLemmas.{AtPlace, IsOther, no_place, place_kept, pool_still, rest_same, rest_still}
+use Rattle.serving.proofs.PlaceLemmas.{AtPlace, IsOther, lower, no_place, no_suc, no_zero, place_kept, pool_still, rest_same, rest_still}
 use Rattle.serving.proofs.PoolLemmas.{aside_first}
 use Rattle.serving.proofs.StepLemmas.{IsFoundAs, found_as, none_kept}
 
@@ -274,3 +279,41 @@ module _ (table : Table) (idle : KeptIdle) (pool new : Pool) (ds : List Cursor) 
             by : (b : Bool) → same_name f n ≡ b → (b || list_any (same_name f) names) ≡ true → (list_any (same_name f) names ≡ true → IsGone at ds f) → IsGone at ds f
             by true e any more = subst (IsGone at ds) (sym (tied f n e)) each.0
             by false e any more = more any
+
+-- a device or memory failed after some kept files were taken away
+pub closes_fault : (table : Table) → KeptIdle → (pool : Pool) (ds : List Cursor) (name : List ℕ) (old new : Option Files) (names : List (List ℕ)) (why : StoreFault) → AllByRecursion IsKeptName names → new ≡ without_files names old
+    → (why ≡ store.WriteFault) ⊎ (why ≡ store.NoMemory) → Serves (closed name) table (cursors_in pool ds) (cursors_in pool ds) old new (Err (of_store why))
+closes_fault table idle pool ds name None new names why kept same is = tt
+closes_fault table idle pool ds name (Some files) new names why kept same is = λ texts m stands.
+    subst (λ o. IfSome o (λ left. IsAnsweredAs (closed name m) (ServingStands (cursors_in pool ds) left texts table) (Stands left (HasTable texts (segments_of m.live))) (Err (of_store why))))
+    (sym (same ∙ without_told names files))
+    (by (closed name m) (ServingStands (cursors_in pool ds) (left_of names files) texts table) (Stands (left_of names files) (HasTable texts (segments_of m.live))) why is (left_stands idle texts (segments_of m.live) names files kept stands.live))
+  where
+    by : (after : After (Unit {0})) (stands : Machine → Type 0) (live : Type 0) (why : StoreFault) → (why ≡ store.WriteFault) ⊎ (why ≡ store.NoMemory) → live → IsAnsweredAs after stands live (Err (of_store why))
+    by after stands live why (inl e) it = subst (λ w. IsAnsweredAs after stands live (Err (of_store w))) (sym e) it
+    by after stands live why (inr e) it = subst (λ w. IsAnsweredAs after stands live (Err (of_store w))) (sym e) it
+
+-- ---- the cursor at a place
+
+pub got_at : (ds : List Cursor) (at : ℕ) (c dflt : Cursor) → at < length ds → get_or ds at dflt ≡ c → slice_get ds at ≡ Some c
+got_at [] at c dflt lt is = absurd (omega (arith, lt))
+got_at (d ∷ ds) zero c dflt lt is = ap Some is
+got_at (d ∷ ds) (suc at) c dflt lt is = got_at ds at c dflt (omega (arith, lt)) is
+
+named_by : (b : Bool) (name : List ℕ) (d c dflt : Cursor) (ds : List Cursor) (at : ℕ) (o : Option ℕ) → same_name name d.name ≡ b → ((k : ℕ) → o ≡ Some k → get_or ds k dflt ≡ c → same_name name c.name ≡ true)
+    → cond b (Some 0) (option_map suc o) ≡ Some at → get_or (d ∷ ds) at dflt ≡ c → same_name name c.name ≡ true
+named_by true name d c dflt ds zero o s again found is = ap (λ (d : Cursor). same_name name d.name) (sym is) ∙ s
+named_by true name d c dflt ds (suc at) o s again found is = absurd (no_zero at found)
+named_by false name d c dflt ds zero o s again found is = absurd (no_suc o found)
+named_by false name d c dflt ds (suc at) o s again found is = again at (lower o at found) is
+
+pub place_named : (name : List ℕ) (ds : List Cursor) (at : ℕ) (c dflt : Cursor) → place_under name ds ≡ Some at → get_or ds at dflt ≡ c → same_name name c.name ≡ true
+place_named name [] at c dflt found is = absurd cc
+place_named name (d ∷ ds) at c dflt found is = named_by (same_name name d.name) name d c dflt ds at (place_under name ds) refl (λ k e i. place_named name ds k c dflt e i) found is
+
+pub over_out : (P : Cursor → Type 0) (ds : List Cursor) (at : ℕ) → AllByRecursion P ds → AllByRecursion P (remove ds at)
+over_out P ds at all = all_out P ds at all
+
+pub write_or_memory : (why : StoreFault) → (Failed (Unit {0}) why ≡ Failed (Unit {0}) store.WriteFault) ⊎ (Failed (Unit {0}) why ≡ Failed (Unit {0}) store.NoMemory) → (why ≡ store.WriteFault) ⊎ (why ≡ store.NoMemory)
+write_or_memory why (inl e) = inl (own_fault (Unit {0}) why store.WriteFault e)
+write_or_memory why (inr e) = inr (own_fault (Unit {0}) why store.NoMemory e)

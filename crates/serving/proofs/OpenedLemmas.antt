@@ -286,3 +286,7 @@ owner_free pool (d ∷ ds) owner all is = by (nat_eq owner d.owner) refl is (own
         → (nat_eq owner d.groups.owner || list_any (nat_eq owner) (owners_of ds)) ≡ false
     by true e is more = absurd cc
     by false e is more = ap (λ b. b || list_any (nat_eq owner) (owners_of ds)) (ap (nat_eq owner) (sym all.0.owner_is) ∙ e) ∙ more is
+
+pub none_some : (o : Option ℕ) → is_some o ≡ false → o ≡ None
+none_some None is = refl
+none_some (Some n) is = absurd (false≢true (sym is))

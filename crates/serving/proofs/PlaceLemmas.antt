@@ -57,14 +57,14 @@ at_place (d ∷ ds) (suc at) c dflt lt is once = (
 
 -- ---- numbers that may be absent
 
-no_zero : (n : ℕ) → Some 0 ≡ Some (suc n) → ⊥
+pub no_zero : (n : ℕ) → Some 0 ≡ Some (suc n) → ⊥
 no_zero n e = let same : 0 ≡ suc n = cc in omega (arith, same)
 
-no_suc : (o : Option ℕ) → option_map suc o ≡ Some 0 → ⊥
+pub no_suc : (o : Option ℕ) → option_map suc o ≡ Some 0 → ⊥
 no_suc None e = absurd cc
 no_suc (Some n) e = let same : suc n ≡ 0 = cc in omega (arith, same)
 
-lower : (o : Option ℕ) (at : ℕ) → option_map suc o ≡ Some (suc at) → o ≡ Some at
+pub lower : (o : Option ℕ) (at : ℕ) → option_map suc o ≡ Some (suc at) → o ≡ Some at
 lower None at e = absurd cc
 lower (Some n) at e = let same : suc n ≡ suc at = cc in let one : n ≡ at = omega (arith, same) in ap Some one
 

@@ -3,4 +3,4 @@ use Rattle.std.specs.Cmp.Lexicographic.{pointwise, texts_ties}
 use Rattle.serving.proofs.closing.is_file.Goals as goal
 
 pub returns-in-Some : goal.returns-in-Some
-returns-in-Some c = c.eq.ensures ∙ (λ i. pointwise nat_eq (c.as_str.ensures i) (c.as_str-2.ensures i)) ∙ texts_ties c.args.name.now c.in-Some.file
+returns-in-Some c = c.eq.ensures ∙ (λ i. pointwise nat_eq (c.as_str.ensures i) (c.as_str-in-Some.ensures i)) ∙ texts_ties c.args.name.now c.in-Some.file

@@ -177,7 +177,7 @@ returns-in-Ok-clause-serves g c =
     let lefts : 0 < length own.segments - own.answered = (let n = c.if-left-eq0.false in let l = c.len.ensures in omega (arith, n, l)) in
     let serves = steps_moved c.args.table.now pool ds name at own own place is held new e (cursors_in new (set ds at e)) lefts c.in-Ok.ensures.answered m c.in-Ok.ensures.stays most
     (puts_moved pool new own e c.in-Ok.ensures.keeps name ds at place placed c.requires.cursors.each m.name) in
-    subst (λ h. Serves (stepped name) c.args.table.now (cursors_in pool ds) (cursors_in new (set ds at e)) held h (Ok _)) (sym c.in-Ok.ensures.passes.only_reads.held)
+    subst (λ h. Serves (stepped name) c.args.table.now (cursors_in pool ds) (cursors_in new (set ds at e)) held h (Ok (c.len.result - own.answered - 1))) (sym c.in-Ok.ensures.passes.only_reads.held)
     (subst (λ n. Serves (stepped name) c.args.table.now (cursors_in pool ds) (cursors_in new (set ds at e)) held held (Ok (n - own.answered - 1))) (sym c.len.ensures) serves)
 
 pub returns-in-Ok-clause-cursors : goal.returns-in-Ok-clause-cursors
