@@ -40,7 +40,7 @@ pub returns-in-Err-clause-serves : goal.returns-in-Err-clause-serves
 returns-in-Err-clause-serves g c = λ table.
     let some = c.in-Err.ensures.some_gone in
     subst (λ why. Serves (closed c.args.cursor.now) table (cursors_in c.args.self.now.pool c.args.self.now.cursors.items) (cursors_in c.args.self.now.pool c.args.self.now.cursors.items) (g.D.Shelf.held c.args.depot.now) (g.D.Shelf.held c.release.new.depot) (Err why)) (sym c.from.ensures)
-    (closes_fault table c.kept_idle_law.ensures c.args.self.now.pool c.args.self.now.cursors.items c.args.cursor.now (g.D.Shelf.held c.args.depot.now) (g.D.Shelf.held c.release.new.depot) some.0 c.in-Err.fault some.1.0 some.1.1
+    (closes_fault table c.kept_idle_law.ensures c.args.self.now.pool c.args.self.now.cursors.items c.args.cursor.now (g.D.Shelf.held c.args.depot.now) (g.D.Shelf.held c.release.new.depot) some.0 c.in-Err.fault some.1 some.2
     (write_or_memory c.in-Err.fault c.in-Err.ensures.only))
 
 pub returns-clause-serves : goal.returns-clause-serves
@@ -55,10 +55,10 @@ returns-clause-serves g c = λ table.
     let is : get_or ds at own ≡ own = sym c.remove-groups.ensures.value in
     let placed : AtPlace (IsOther own) at own ds = at_place ds at own own lt is c.requires.cursors.owners in
     let gone = c.in-Ok.ensures.gone in
-    let all : AreGone at ds gone.0 = subst (λ l. AreGone at l gone.0) c.as_slice-2.ensures.value gone.1.0 in
+    let all : AreGone at ds gone.0 = subst (λ l. AreGone at l gone.0) c.as_slice-2.ensures.value gone.1 in
     subst (λ l. Serves (closed name) table (cursors_in pool ds) (cursors_in c.close.new.pool l) (g.D.Shelf.held c.args.depot.now) (g.D.Shelf.held c.release.new.depot) (Ok tt)) (sym c.remove-groups.ensures.items)
     (closes_out table c.kept_idle_law.ensures pool c.close.new.pool ds name at own own place (got_at ds at own own lt is) is (place_named name ds at own own place is) c.requires.cursors placed c.close.ensures.keeps
-    (g.D.Shelf.held c.args.depot.now) (g.D.Shelf.held c.release.new.depot) gone.0 all gone.1.1)
+    (g.D.Shelf.held c.args.depot.now) (g.D.Shelf.held c.release.new.depot) gone.0 all gone.2)
 
 pub returns-clause-cursors : goal.returns-clause-cursors
 returns-clause-cursors g c =
