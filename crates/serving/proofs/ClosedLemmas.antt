@@ -264,13 +264,15 @@ module _ (table : Table) (idle : KeptIdle) (pool new : Pool) (ds : List Cursor) 
         (takes_at name olds at (cursor_in pool c) (seen_at pool ds at c got) (sym (tied name c.name named)) (subst (IsDistinct same_name) (sym (names_seen pool ds)) all.names)) in
         subst (λ o. IfSome o (λ left. IsAnsweredAs (closed name m) (ServingStands (cursors_in new (remove ds at)) left texts table) (Stands left (HasTable texts (segments_of m.live))) (Ok tt)))
         (sym (same ∙ without_told names files))
-        (subst (λ (a : After (Unit {0})). IsAnsweredAs a (ServingStands (cursors_in new (remove ds at)) (left_of names files) texts table) (Stands (left_of names files) (HasTable texts (segments_of m.live))) (Ok tt)) (sym goes)
-        (refl, closes_stand table files (left_of names files) texts m name olds (cursors_in new (remove ds at)) found.cursor (cursor_in pool c) stands found.got found.is names
-        (λ f went. alone_of f (went_at f names gone.each went).alone)
-        (λ f kept has alone. gone.all c got f has (record { kept = kept; alone = no_other f alone }))
-        (left_got names files) takes (left_stands idle texts (segments_of m.live) names files (gone_kept at ds names gone.each) stands.live)
-        (subst (λ (a : After (Unit {0})). IsSound a.machine) goes (stays_sound 0 (Close name) m stands.sound))
-        (subst (λ (a : After (Unit {0})). IsNumbered a.machine) goes (stays_numbered 0 (Close name) m stands.sound stands.numbered))))
+        (subst (λ (a : After (Unit {0})). IsAnsweredAs a (ServingStands (cursors_in new (remove ds at)) (left_of names files) texts table) (Stands (left_of names files) (HasTable texts (segments_of m.live))) (Ok tt)) (sym goes) (
+          refl,
+          closes_stand table files (left_of names files) texts m name olds (cursors_in new (remove ds at)) found.cursor (cursor_in pool c) stands found.got found.is names
+              (λ f went. alone_of f (went_at f names gone.each went).alone)
+              (λ f kept has alone. gone.all c got f has (record { kept = kept; alone = no_other f alone }))
+              (left_got names files) takes (left_stands idle texts (segments_of m.live) names files (gone_kept at ds names gone.each) stands.live)
+              (subst (λ (a : After (Unit {0})). IsSound a.machine) goes (stays_sound 0 (Close name) m stands.sound))
+              (subst (λ (a : After (Unit {0})). IsNumbered a.machine) goes (stays_numbered 0 (Close name) m stands.sound stands.numbered)),
+        ))
       where
         went_at : (f : List ℕ) (names : List (List ℕ)) → AllByRecursion (IsGone at ds) names → list_any (same_name f) names ≡ true → IsGone at ds f
         went_at f [] each any = absurd (false≢true any)

@@ -102,12 +102,14 @@ more_gone at cursors files (Some file) old mid new (names, of, is) (inl kept) =
     by : (name : List ℕ) → IsGone at cursors name → (has_file name files ≡ true) ⊎ (same_name name file ≡ true) → list_any (same_name name) names ≡ true
     by name gone (inl had) = of.all name had gone
     by name gone (inr same) = absurd (kept.0 (subst (IsGone at cursors) (tied name file same) gone))
-more_gone at cursors files (Some file) old mid new (names, of, is) (inr went) =
-    (names ++ file ∷ [],
-    record {
-      each = all_joined (IsGone at cursors) names (file ∷ []) of.each (went.0, tt);
-      all = λ name has gone. any_joined (same_name name) names file ∙ by name gone (or_either (has_file name files) (same_name name file) (sym (any_joined (is_file name) files (Some file)) ∙ has));
-    }, went.1 ∙ ap (without_file file) is ∙ sym (without_last names file old))
+more_gone at cursors files (Some file) old mid new (names, of, is) (inr went) = (
+  names ++ file ∷ [],
+  record {
+    each = all_joined (IsGone at cursors) names (file ∷ []) of.each (went.0, tt);
+    all = λ name has gone. any_joined (same_name name) names file ∙ by name gone (or_either (has_file name files) (same_name name file) (sym (any_joined (is_file name) files (Some file)) ∙ has));
+  },
+  went.1 ∙ ap (without_file file) is ∙ sym (without_last names file old),
+)
   where
     by : (name : List ℕ) → IsGone at cursors name → (has_file name files ≡ true) ⊎ (same_name name file ≡ true) → (list_any (same_name name) names || same_name name file) ≡ true
     by name gone (inl had) = or_left (list_any (same_name name) names) (same_name name file) (of.all name had gone)

@@ -82,11 +82,7 @@ fn fault_of(fault: TableFault) -> ExecutorFault
 }
 
 // The segments of these names where they stand.
-fn stored_of(
-    alloc: Global,
-    names: &[Name],
-    files: &[Option<Name>],
-) -> Result<Vec<Stored>, NoMemory>
+fn stored_of(alloc: Global, names: &[Name], files: &[Option<Name>]) -> Result<Vec<Stored>, NoMemory>
     requires each { length files.now ≡ length names.now }
     requires there { AllByRecursion (λ file. is_some file ≡ true) files.now }
     ensures { IfOk result (λ stored. stored.items ≡ stored_in names.now files.now) }

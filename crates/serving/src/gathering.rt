@@ -100,7 +100,9 @@ fn add_all<S: Shelf>(
     };
     let done = pass_over(alloc, shelf, table, stored, query, &mut pass);
     let Pass {
-        groups, pool: kept, ..
+        groups,
+        pool: kept,
+        ..
     } = pass;
     *pool = kept;
     (groups, done)

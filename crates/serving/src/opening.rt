@@ -73,11 +73,7 @@ fn live_files(alloc: Global, names: &[Name]) -> Result<Vec<Option<Name>>, NoMemo
 }
 
 // Adds the file of a segment that is live.
-fn push_live(
-    alloc: Global,
-    name: &Name,
-    files: &mut Vec<Option<Name>>,
-) -> Result<(), NoMemory>
+fn push_live(alloc: Global, name: &Name, files: &mut Vec<Option<Name>>) -> Result<(), NoMemory>
     ensures { OnOk result (files.new.items ≡ files.old.items ++ Some (file_of name.now) ∷ []) }
 {
     let file = Name::from_string(alloc, segment_file_name(alloc, name.as_str())?)?;

@@ -25,12 +25,14 @@ returns-clause-gone g c =
     let gone = c.files.invariant in
     let own : Cursor = c.index-cursors-at.result in
     let files : List (Option (List ℕ)) = c.as_slice-files.result.now in
-    let whole : take c.files.k files ≡ own.files.items = take_all c.files.k files c.files-test.false ∙ c.as_slice-files.ensures.value in
-    (gone.0,
-    record {
-      each = gone.1.each;
-      all = λ cursor got name has one.
-          let both : Some cursor ≡ Some own = sym got ∙ got_at c.args.cursors.now c.args.at own own c.requires (sym c.index-cursors-at.is) in
-          let same : cursor ≡ own = cc in
-          gone.1.all name (ap (has_file name) (whole ∙ ap (λ (d : Cursor). d.files.items) (sym same)) ∙ has) one;
-    }, gone.2)
+    let whole : take c.files.k files ≡ own.files.items = take_all c.files.k files c.files-test.false ∙ c.as_slice-files.ensures.value ∙ ap (λ (d : Cursor). d.files.items) (sym c.index-cursors-at.is) in (
+      gone.0,
+      record {
+        each = gone.1.each;
+        all = λ cursor got name has one.
+            let both : Some cursor ≡ Some own = sym got ∙ got_at c.args.cursors.now c.args.at own own c.requires (sym c.index-cursors-at.is) in
+            let same : cursor ≡ own = cc in
+            gone.1.all name (ap (has_file name) (whole ∙ ap (λ (d : Cursor). d.files.items) (sym same)) ∙ has) one;
+      },
+      gone.2,
+    )

@@ -75,7 +75,7 @@ returns-in-Err-clause-serves g c =
     let within : own.answered ≤ length own.segments = it.answered in
     let to : c.len-to.result ≡ length own.segments = c.len-to.ensures in
     let serves : Serves (fetched name) c.args.table.now (cursors_in pool ds) (cursors_in pool ds) held held (Err (of_query c.in-Err.fault)) =
-    fetches_failed c.args.table.now pool ds name at own own place is within held c.in-Err.fault 
+    fetches_failed c.args.table.now pool ds name at own own place is within held c.in-Err.fault
     (λ f why real. subst (λ n. IsOverfull c.args.table.now held (next_stored own n) pool own) to (c.in-Err.ensures.refused f (ap Err why) real))
     (λ n part why. let b = c.in-Err.ensures.passes.bad n part (ap Err why) in subst (λ k. IsBadAt c.args.table.now held (next_stored own k) n) to (b.0, b.1.1)) in
     subst (λ news. Serves (fetched name) c.args.table.now (cursors_in pool ds) news held (g.S.Shelf.held c.answer_to.new.shelf) (Err c.from.result)) (sym same)
