@@ -4,9 +4,10 @@
 merge.py part SQL STORE...               checks query and stores; prints what to ask each store
 merge.py answer SQL STORE ANSWER.csv...  prints the merged answer; STORE has the columns' types
 
-A store is asked without ORDER BY and LIMIT, and also for what is only grouped or ordered by. SQLite
-groups, orders and cuts; sums, which have more than 64 bits, and averages, sum/count, are texts to
-it. What this file does not know of a query it refuses, even where the program accepts it."""
+A store is asked without HAVING, ORDER BY and LIMIT, and also for what is only grouped, tested or
+ordered by. SQLite groups, tests, orders and cuts; sums, which have more than 64 bits, and averages,
+sum/count, are texts to it. What this file does not know of a query it refuses, even where the
+program accepts it."""
 import csv
 import io
 import json
@@ -24,7 +25,7 @@ FOLDS = {"": "%s", "count": "sum(%s)", "min": "min(%s)", "max": "max(%s)",
 
 class Query:
     """A query that the program accepts. A term is a function, "" for a column alone, and a column;
-    `terms` are those that it shows, and then those that it only groups or orders by."""
+    `terms` are those that it shows, and then those that it only groups, tests or orders by."""
 
     def __init__(self, sql, types):
         self.tokens = [(found[0], found.start()) for found in TOKEN.finditer(sql)]
@@ -41,6 +42,7 @@ class Query:
                       or text.strip('"') in types, text)
         self.keys = self.several(self.term) if self.takes("GROUP", "BY") else []
         end = self.tokens[0][1]
+        self.having = list(self.tests()) if self.keys and self.takes("HAVING") else []
         order = self.several(lambda: (self.term(), self.takes("DESC") or self.takes("ASC"))) \
             if self.takes("ORDER", "BY") else []
         self.limit = int(self.tokens.pop(0)[0]) if self.takes("LIMIT") else 10
@@ -50,7 +52,8 @@ class Query:
         called = {("", name): term for term, name in reversed(items) if name}  # the first counts
         self.order = [(called.get(term, term), way) for term, way in order]
         shown = [term for term, _ in items]
-        hidden = dict.fromkeys(self.keys + [term for term, _ in self.order])
+        tested = [test[0] for test in self.having if not isinstance(test, str)]
+        hidden = dict.fromkeys(self.keys + tested + [term for term, _ in self.order])
         hidden = [term for term in hidden if term not in shown]
         self.shown, self.terms = len(shown), shown + hidden
         asked = "".join(', %s("%s")' % term if term[0] else ', "%s"' % term[1] for term in hidden)
@@ -86,6 +89,25 @@ class Query:
         column = self.takes("*") or self.name()
         self.must(self.takes(")"))
         return name.lower(), column
+
+    def tests(self):
+        """HAVING, piece by piece: a word, or a term, a sign and a literal."""
+        while self.tokens[0][0].upper() not in ("ORDER", "LIMIT", ";", ""):
+            word = self.takes("NOT") or self.takes("AND") or self.takes("OR") \
+                or self.takes("(") or self.takes(")")
+            yield word or (self.term(), self.sign(), self.literal())
+
+    def sign(self):
+        text = ""
+        while self.tokens[0][0] and self.tokens[0][0] in "<>=!":
+            text += self.tokens.pop(0)[0]
+        self.must(text)
+        return text
+
+    def literal(self):
+        self.must(re.match(r"'|-?\d", self.tokens[0][0]))
+        text = self.tokens.pop(0)[0]
+        return text[1:-1].replace("''", "'") if text[0] == "'" else int(text)
 
 
 class Total:
@@ -144,8 +166,16 @@ def merge(sql, store, answers):
     at = {term: query.terms.index(term) for term in query.terms}
     folded = {term: FOLDS[term[0]] % "c%d" % at[term] for term in query.terms}
     keys = ["c%d" % at[key] for key in query.keys]
-    order = [folded[term] + " COLLATE by_number " * totals[at[term]] + " " + way
-             for term, way in query.order] + keys
+    compared = {term: folded[term] + " COLLATE by_number" * totals[at[term]] for term in query.terms}
+    order = [compared[term] + " " + way for term, way in query.order] + keys
+    having, literals = "", []
+    for test in query.having:
+        if isinstance(test, str):
+            having += " %s " % test
+        else:
+            term, sign, literal = test
+            having += "(%s %s ?)" % (compared[term], sign)
+            literals.append(str(literal) if totals[at[term]] else literal)
     db = sqlite3.connect(":memory:")
     db.create_aggregate("total_of", 1, Total)
     db.create_collation("by_number", by_number)
@@ -155,10 +185,10 @@ def merge(sql, store, answers):
         db.executemany("INSERT INTO part VALUES (%s)" % ", ".join("?" * len(texts)), (
             [cell if texts[place] else None if cell == "null" else int(cell)
              for place, cell in enumerate(row)] for row in rows))
-    merged = db.execute("SELECT %s FROM part %s %s LIMIT %d OFFSET %d" % (
+    merged = db.execute("SELECT %s FROM part %s %s %s LIMIT %d OFFSET %d" % (
         ", ".join(folded[term] for term in query.terms[:query.shown]),
-        "GROUP BY " * bool(keys) + ", ".join(keys), "ORDER BY " * bool(order) + ", ".join(order),
-        query.limit, query.offset))
+        "GROUP BY " * bool(keys) + ", ".join(keys), "HAVING " * bool(having) + having,
+        "ORDER BY " * bool(order) + ", ".join(order), query.limit, query.offset), literals)
     return "".join(map(record, [header[:query.shown], *merged]))
 
 

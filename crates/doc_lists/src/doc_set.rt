@@ -10,10 +10,10 @@ use crate::{DocList, NoMemory, sets};
 use std::alloc::Global;
 use std::marker::Model;
 
-// Two lists are met run by run where one of them has so few runs, and else word by word.
+// Two lists are met run by run where one of them has so few runs.
 const FEW_RUNS: usize = 1024;
 
-// So few documents of a list are looked at one by one in the words that it is met with.
+// So few documents of a list are looked at one by one in the words of the set that it is met with.
 const FEW_DOCS: usize = 32_768;
 
 /// A set of documents, which contracts see as a list of them, ascending and without repeats. It is
@@ -142,13 +142,18 @@ pub fn meet(alloc: Global, a: &DocSet, b: &DocSet) -> Result<DocSet, NoMemory>
     })
 }
 
-// The documents that are in both sets, where the first is a list of few and the second is words.
+// The documents that are in both sets, where the first is a list of few.
 fn met_by_one(alloc: Global, a: &DocSet, b: &DocSet) -> Result<Option<DocSet>, NoMemory>
     ensures { IfOk result (λ found. IfSome found
         (AreThose (λ doc. has_doc a.now doc && has_doc b.now doc))) }
 {
     match (&a.kept, &b.kept) {
         (Kept::Runs(list), Kept::Words(marks)) if list.len() <= FEW_DOCS => {
+            let both = sets::marked(alloc, list, marks.as_slice())?;
+            Ok(Some(DocSet::of_list(both)))
+        }
+        (Kept::Runs(list), Kept::Runs(_)) if list.len() <= FEW_DOCS => {
+            let marks = b.words(alloc)?;
             let both = sets::marked(alloc, list, marks.as_slice())?;
             Ok(Some(DocSet::of_list(both)))
         }

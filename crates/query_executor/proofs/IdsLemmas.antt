@@ -20,7 +20,7 @@ use Rattle.segment_plan.specs.Laws.{HeadTells}
 use Rattle.segment_plan.specs.Planned.{plan_over}
 use Rattle.segment_plan.specs.RowsLeft.{rows_left}
 use Rattle.segment_plan.specs.Named.{AreNamedLoaded}
-use Rattle.segment_plan.specs.declared.plans.IndexChoice.TheVariants.{Unindexed}
+use Rattle.segment_plan.specs.declared.plans.IndexChoice.{IndexChoice}
 use Rattle.segment_plan.specs.declared.plans.ScanPlan.{ScanPlan}
 use Rattle.segment_plan.specs.declared.plans.SegmentPlan.TheVariants.{Scan}
 use Rattle.segment_reads.specs.Logs.{EndsInHead}
@@ -31,7 +31,7 @@ use Rattle.segment_opening.specs.Opened.{IsHeadIn, IsSpreadIn}
 use Rattle.segment_scan.specs.Images.{AddsImage, AreDocs, ImagesLeave, ImagesRead, IsBadIn, IsImageOverfull, LogsScan, LogsScanPartly, choices_for}
 use Rattle.segment_scan.proofs.ScanReads.{image_scan, image_scan_partly}
 use Rattle.query_executor.specs.Alike.{IdsAreAlike, IsAlike, with_own}
-use Rattle.query_executor.proofs.IdsAlike.{bad_alike, choices_un}
+use Rattle.query_executor.proofs.IdsAlike.{bad_alike, choices_fixed}
 use Rattle.query_executor.proofs.IdsHeads.{set_head, set_loaded}
 use Rattle.query_executor.proofs.IdsReads.{full_head, full_image, full_loaded, same_names, with_column}
 use Rattle.outside.specs.Seen as outside
@@ -47,12 +47,12 @@ use Rattle.query_executor.specs.ByIds.{CanAskByIds, IsAskedOf, IsByIds}
 use Rattle.query_executor.specs.Passes.{AddsSegment, IsBadPart}
 use Rattle.query_executor.specs.Steps.{AddsGroups, AddsStored, IsStoredOverfull, selected_in}
 
-module _ (query asked : BoundQuery) (table : Table) (segment : Stored) (head : Seen) (column count : ℕ) (ids : List ℕ) (by : IsByIds query asked column ids) where
+module _ (query asked : BoundQuery) (table : Table) (segment : Stored) (head : Seen) (column : ℕ) (choice : IndexChoice) (count : ℕ) (ids : List ℕ) (by : IsByIds query asked column ids) where
   abbrev pub given : Seen
   given = with_ids column count head
 
   abbrev Can : Option Files → Type 0
-  Can held = CanAskByIds query table held segment head column count ids
+  Can held = CanAskByIds query table held segment head column choice count ids
 
   pub given_head : (held : Option Files) → Can held → IsHeadOf table given
   given_head held can = set_head table head column (ids_below count) can.opened.of
@@ -68,8 +68,8 @@ module _ (query asked : BoundQuery) (table : Table) (segment : Stored) (head : S
   pub of_asked : (groups : KeptGroups) → IsTableOf query groups → IsTableOf asked groups
   of_asked groups is = record { columns = is.columns ∙ ap length (sym by.groups_same); kinds = is.kinds ∙ ap (map (λ agg. agg.kind)) (sym by.aggs_same) }
 
-  pub chosen : (held : Option Files) → Can held → (plan : ScanPlan) → plan.choices ≡ Unindexed ∷ [] → plan.choices ≡ choices_for asked table given
-  chosen held can plan is = is ∙ sym (choices_un table column can.unindexed asked by.test by.only given)
+  pub chosen : (held : Option Files) → Can held → (plan : ScanPlan) → plan.choices ≡ choice ∷ [] → plan.choices ≡ choices_for asked table given
+  chosen held can plan is = is ∙ sym (choices_fixed table column choice can.fixed asked by.test by.only given)
 
   -- on the image of rows
   asked_of : (files : Files) (can : Can (Some files)) (rows : List (List Value)) → HasImage table files segment rows → IsAskedOf query asked table files rows head column can.test count ids
@@ -86,7 +86,7 @@ module _ (query asked : BoundQuery) (table : Table) (segment : Stored) (head : S
 
   module _ (law : IdsAreAlike) where
     alike : (files : Files) (can : Can (Some files)) (rows : List (List Value)) → HasImage table files segment rows → IsAlike query asked table files rows head column count
-    alike files can rows has = law query asked table files rows head column can.test count ids (asked_of files can rows has) can.unindexed can.some
+    alike files can rows has = law query asked table files rows head column can.test choice count ids (asked_of files can rows has) can.fixed can.some
 
     pub adds_by_ids : (held : Option Files) → Can held → (old new : KeptGroups) → AddsImage asked table held given old new → AddsStored query table held segment old new
     adds_by_ids held can old new a = record {
@@ -139,20 +139,20 @@ module _ (query asked : BoundQuery) (table : Table) (segment : Stored) (head : S
     pub bad_by_ids : (held : Option Files) → Can held → (part : Part) → IsBadIn asked table held given part → IsBadPart query table held segment part
     bad_by_ids held can part bad =
         let none = no_image held can part bad in
-        (inr (given, opened_given held can none, inl (can.unpicked, bad_alike query asked table column can.test ids can.unindexed can.alone by held given part bad)), none)
+        (inr (given, opened_given held can none, inl (can.unpicked, bad_alike query asked column can.test ids can.alone by table choice can.fixed held given part bad)), none)
 
-    pub done_by_ids : (read : ImagesRead) → HeadTells → (held : Option Files) → Can held → (plan : ScanPlan) (docs : ℕ) → plan.choices ≡ Unindexed ∷ [] → AreDocs asked table held given docs → IsDoneIn query table held segment (Scan plan) docs
-    done_by_ids read tells None can plan docs choices are = tt
-    done_by_ids read tells (Some files) can plan docs choices are = λ rows has.
+    pub done_by_ids : (read : ImagesRead) → HeadTells → (held : Option Files) → Can held → (plan : ScanPlan) (docs : ℕ) → plan.choices ≡ choice ∷ [] → (a b : Option (List Entry)) → AreDocs asked table held given docs → LogsScan asked table held given docs a b → IsDoneIn query table held segment (Scan plan) docs
+    done_by_ids read tells None can plan docs choices x y are logs = tt
+    done_by_ids read tells (Some files) can plan docs choices x y are logs = λ rows has.
         let os : List (List Value) = ordered table.settings.sorted rows in
         let a = asked_of files can rows has in
         let is = alike files can rows has in
         let over : Scan plan ≡ plan_over query table os = is.plan_is plan can.query_valid can.kept can.unpicked (chosen (Some files) can plan choices) in
-        let left = (is.docs docs are).told rows (full_image read tells query asked table files rows head column can.test count ids a) in
-        let own : choices_for query table (with_own table rows column head) ≡ plan.choices = choices_un table column can.unindexed query can.test can.alone.only (with_own table rows column head) ∙ sym choices in
+        let left = (is.docs docs x y are logs).told rows (full_image read tells query asked table files rows head column can.test count ids a) in
+        let own : choices_for query table (with_own table rows column head) ≡ plan.choices = choices_fixed table column choice can.fixed query can.test can.alone.only (with_own table rows column head) ∙ sym choices in
         (over, left ∙ ap (λ cs. length (rows_left query cs os)) own ∙ ap (docs_by query table os) over)
 
-    module _ (read : ImagesRead) (leave : ImagesLeave) (tells : HeadTells) (plan : ScanPlan) (choices : plan.choices ≡ Unindexed ∷ []) where
+    module _ (read : ImagesRead) (leave : ImagesLeave) (tells : HeadTells) (plan : ScanPlan) (choices : plan.choices ≡ choice ∷ []) where
       pub reads_by_ids : (held : Option Files) → Can held → (docs : ℕ) (a b : Option (List Entry)) → LogsScan asked table held given docs a b → LogsOne (ReadsPlanned query table true) table held segment a b
       reads_by_ids None can docs a b logs = λ before entries was now. tt
       reads_by_ids (Some files) can docs a b logs = λ before entries was now rows has.
@@ -161,7 +161,7 @@ module _ (query asked : BoundQuery) (table : Table) (segment : Stored) (head : S
           let is = alike files can rows has in
           let full = with_own table rows column head in
           let i = full_image read tells query asked table files rows head column can.test count ids x in
-          let own : plan.choices ≡ choices_for query table full = choices ∙ sym (choices_un table column can.unindexed query can.test can.alone.only full) in
+          let own : plan.choices ≡ choices_for query table full = choices ∙ sym (choices_fixed table column choice can.fixed query can.test can.alone.only full) in
           let over : Scan plan ≡ plan_over query table os = is.plan_is plan can.query_valid can.kept can.unpicked (chosen (Some files) can plan choices) in
           subst (ReadsBy query table segment os true entries) over
           (image_scan read leave query table segment full rows can.valid
@@ -181,7 +181,7 @@ module _ (query asked : BoundQuery) (table : Table) (segment : Stored) (head : S
           let is = alike files can rows has in
           let full = with_own table rows column head in
           let i = full_image read tells query asked table files rows head column can.test count ids x in
-          let own : plan.choices ≡ choices_for query table full = choices ∙ sym (choices_un table column can.unindexed query can.test can.alone.only full) in
+          let own : plan.choices ≡ choices_for query table full = choices ∙ sym (choices_fixed table column choice can.fixed query can.test can.alone.only full) in
           let over : Scan plan ≡ plan_over query table os = is.plan_is plan can.query_valid can.kept can.unpicked (chosen (Some files) can plan choices) in
           subst (ReadsBy query table segment os false entries) over
           (image_scan_partly read leave query table segment full rows can.valid

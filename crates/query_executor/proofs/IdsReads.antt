@@ -3,7 +3,7 @@ use Rattle.std.proofs.Common.{◌≡◌, ◌≢◌, ◌∙◌, ◌<◌, ◌+◌,
 use Rattle.std.specs.List.{AllZip, filter, list_any, range_with_len}
 use Rattle.std.proofs.lemmas.Bool.{eqb-true, false≢true}
 use Rattle.std.proofs.lemmas.List.{get_or-map, length-map, length-replicate}
-use Rattle.std.proofs.lemmas.List.Elements.{All-cons, All-nil}
+use Rattle.std.proofs.lemmas.List.Elements.{All-cons, All-head, All-nil, All-tail}
 use Rattle.std.proofs.lemmas.List.FromFn.{get_or-map-range_with_len, length-range_with_len}
 use Rattle.outside.specs.Files.{Files}
 use Rattle.values.specs.declared.value.Value.{Value}
@@ -14,7 +14,7 @@ use Rattle.values.specs.Tests.{holds}
 use Rattle.values.proofs.RowLemmas.{length-rows, row-at}
 use Rattle.value_ids.specs.Coding.{values_at}
 use Rattle.value_ids.specs.Dictionary.{Distinct}
-use Rattle.value_ids.specs.Ids.{has_id, satisfies}
+use Rattle.value_ids.specs.Ids.{has_id, matching, matching_from, satisfies}
 use Rattle.value_ids.proofs.IdLemmas.{each_matching}
 use Rattle.bit_column.specs.Column.{ids_between, width_of}
 use Rattle.bit_column.specs.Bits.{bits_of}
@@ -30,6 +30,12 @@ use Rattle.segment_head.specs.Heads.{IsHeadOf, IsLoaded, Seen, with_dictionary}
 use Rattle.segment_head.specs.Stored.{IsOfImage}
 use Rattle.segment_plan.specs.Laws.{HeadTells, TellsOf}
 use Rattle.segment_plan.specs.Matched.{count_in, values_in}
+use Rattle.segment_plan.specs.declared.plans.IndexChoice.{IndexChoice}
+use Rattle.segment_plan.specs.declared.plans.IndexChoice.TheVariants.{Unindexed, Sorted, Inverted, Range}
+use Rattle.segment_plan.specs.Served.{rest_of, unserved}
+use Rattle.scan_engine.specs.Places.{rows_at}
+use Rattle.scan_engine.specs.Scanned.{selected}
+use Rattle.segment_scan.specs.Documents.{selected_docs}
 use Rattle.segment_plan.specs.Named.{AreNamedLoaded, agg_names, conjunct_names, is_in, names_in, query_names}
 use Rattle.column_reader.specs.Forward.{HasIds, forward_in}
 use Rattle.segment_scan.specs.Agreement.{Agree, AgreeAll}
@@ -38,6 +44,7 @@ use Rattle.segment_scan.specs.Scans.{column_read, columns_read, table_read, valu
 use Rattle.segment_scan.proofs.ImageLemmas.{columns_few, item_there}
 use Rattle.segment_head.specs.ColumnIds.{ids_below, numbers_below, with_ids}
 use Rattle.segment_opening.specs.Found.{IsTestedAlone, unfiltered}
+use Rattle.segment_opening.proofs.FoundLemmas.{more_true}
 use Rattle.query_executor.specs.ByIds.{IsAskedOf, IsByIds, IsFoundOf}
 use Rattle.query_executor.specs.Alike.{ReadAlike}
 use Rattle.query_executor.proofs.IdsFound.{image_has}
@@ -79,6 +86,15 @@ within_list : {X : Type 0} (xs : List X) (k : ℕ) (x : X) → slice_get xs k �
 within_list [] k x at = absurd cc
 within_list (y ∷ ys) zero x at = omega arith
 within_list (y ∷ ys) (suc k) x at = omega (arith, within_list ys k x at)
+
+matching_alike : (s t : Test) (from : ℕ) (xs ys : List Value) → length xs ≡ length ys → ((k : ℕ) → k < length xs → holds (get_or xs k (Whole (pos 0))) s ≡ holds (get_or ys k (Whole (pos 0))) t) → matching_from from s xs ≡ matching_from from t ys
+matching_alike s t from [] [] e h = refl
+matching_alike s t from [] (y ∷ ys) e h = absurd (omega (arith, e))
+matching_alike s t from (x ∷ xs) [] e h = absurd (omega (arith, e))
+matching_alike s t from (x ∷ xs) (y ∷ ys) e h =
+    let here = h 0 (omega arith) in
+    let more = matching_alike s t (from + 1) xs ys (omega (arith, e)) (λ k lt. h (suc k) (omega (arith, lt))) in
+    (λ i. cond (here i) (from ∷ more i) (more i))
 
 -- rows that agree and pass alike are kept alike
 module _ (named : ℕ → Bool) (p q : List Value → Bool) where
@@ -221,6 +237,24 @@ module _ (read : ImagesRead) (tells_law : HeadTells) (query asked : BoundQuery) 
       let long = pieces-long (width_of count) (0 * width_of count) (head.rows - 0) (bits_of 8 (forward_in files head column)) in
       omega (arith, long)
 
+  -- ---- ids that satisfy the tests
+
+  id_tested : (id : ℕ) → id < count → holds (Whole (pos id)) a.by.test ≡ holds (get_or d.values id (Whole (pos 0))) test
+  id_tested id lt =
+      let n = a.found.count_is in
+      let below : id < length d.values = omega (arith, lt, n) in
+      a.by.picks id ∙ each_matching d.values test ids a.found.ids_are id ∙ ap (satisfies test) (item_there (Whole (pos 0)) d.values id below)
+
+  -- the ids that satisfy the one test are those of the values that satisfy the other
+  pub matching_same : matching a.by.test (values_in given column) ≡ matching test (values_in full column)
+  matching_same =
+      let n = a.found.count_is in
+      let long : length (numbers_below count) ≡ count = length-map (range_with_len 0 count) (λ n. Whole (pos n)) ∙ length-range_with_len 0 count in
+      ap (matching a.by.test) given_values
+      ∙ matching_alike a.by.test test 0 (numbers_below count) d.values (omega (arith, long, n))
+      (λ k lt. let below : k < count = omega (arith, lt, long) in let plain : 0 + k ≡ k = omega arith in ap (λ v. holds v a.by.test) (get_or-map-range_with_len (λ n. Whole (pos n)) 0 count k k (Whole (pos 0)) below plain) ∙ id_tested k below)
+      ∙ ap (matching test) (sym full_values)
+
   -- ---- one row
 
   abbrev marks : List Bool
@@ -231,8 +265,13 @@ module _ (read : ImagesRead) (tells_law : HeadTells) (query asked : BoundQuery) 
       let plain : 0 + c ≡ c = omega arith in
       get_or-map-range_with_len (query_names query) 0 (length table.schema.fields) c c false (columns_few table full c full_head (full_loaded c named)) plain ∙ named
 
-  abbrev row_by : ℕ → List Value
-  row_by k = row_of (columns_read files given 0 marks) k
+  -- a row that is read by ids, in the columns that are marked
+  abbrev row_by : List Bool → ℕ → List Value
+  row_by ms k = row_of (columns_read files given 0 ms) k
+
+  -- the columns that are named without the filter are marked
+  abbrev AreMarked : List Bool → Type 0
+  AreMarked ms = (c : ℕ) → query_names (unfiltered query) c ≡ true → get_or ms c false ≡ true
 
   module _ (k : ℕ) (other : List Value) (there : slice_get os k ≡ Some other) (in_rows : k < head.rows) where
     full_agrees : Agree (query_names query) (row_of (columns_read files full 0 marks) k) other
@@ -246,13 +285,15 @@ module _ (read : ImagesRead) (tells_law : HeadTells) (query asked : BoundQuery) 
         found_in (y ∷ ys) zero x at = cc
         found_in (y ∷ ys) (suc k) x at = found_in ys k x at
 
-    given_agrees : Agree (query_names (unfiltered query)) (row_by k) other
-    given_agrees c named =
-        let named_all = named_too query column test a.alone c named in
-        own_cell files given c k marks (mark-is c named_all)
+    -- what the file has in a column is what the row has
+    full_cell : (c : ℕ) → query_names query c ≡ true → get_or (values_read files full c true) k (Whole (pos 0)) ≡ cell other c
+    full_cell c named = sym (own_cell files full c k marks (mark-is c named)) ∙ full_agrees c named
+
+    given_agrees : (ms : List Bool) → AreMarked ms → Agree (query_names (unfiltered query)) (row_by ms k) other
+    given_agrees ms marked c named =
+        own_cell files given c k ms (marked c named)
         ∙ ap (λ (l : List Value). get_or l k (Whole (pos 0))) (others_read c (apart_from query column test a.alone c named))
-        ∙ sym (own_cell files full c k marks (mark-is c named_all))
-        ∙ full_agrees c named_all
+        ∙ full_cell c (named_too query column test a.alone c named)
 
     abbrev id : ℕ
     id = get_or own_ids k 0
@@ -263,47 +304,39 @@ module _ (read : ImagesRead) (tells_law : HeadTells) (query asked : BoundQuery) 
     id_below : id < count
     id_below = ids_below_count k 0 in_ids
 
-    given_cell : cell (row_by k) column ≡ Whole (pos id)
-    given_cell =
+    given_cell : (ms : List Bool) → get_or ms column false ≡ true → cell (row_by ms k) column ≡ Whole (pos id)
+    given_cell ms marked =
         let plain : 0 + id ≡ id = omega arith in
-        own_cell files given column k marks (mark-is column (own_named query column test a.alone))
+        own_cell files given column k ms marked
         ∙ ap (λ (l : List Value). get_or l k (Whole (pos 0))) given_read
         ∙ get_or-map (λ n. get_or (numbers_below count) n (Whole (pos 0))) own_ids k 0 (Whole (pos 0)) in_ids
         ∙ get_or-map-range_with_len (λ n. Whole (pos n)) 0 count id id (Whole (pos 0)) id_below plain
 
-    full_cell : cell other column ≡ get_or d.values id (Whole (pos 0))
-    full_cell =
-        sym (full_agrees column (own_named query column test a.alone))
-        ∙ own_cell files full column k marks (mark-is column (own_named query column test a.alone))
+    own_value : cell other column ≡ get_or d.values id (Whole (pos 0))
+    own_value =
+        sym (full_cell column (own_named query column test a.alone))
         ∙ ap (λ (l : List Value). get_or l k (Whole (pos 0))) full_read
         ∙ get_or-map (λ n. get_or d.values n (Whole (pos 0))) own_ids k 0 (Whole (pos 0)) in_ids
 
-    tested_alike : holds (cell (row_by k) column) a.by.test ≡ holds (cell other column) test
-    tested_alike =
-        let n = a.found.count_is in
-        let below : id < length d.values = omega (arith, id_below, n) in
-        ap (λ v. holds v a.by.test) given_cell
-        ∙ a.by.picks id
-        ∙ each_matching d.values test ids a.found.ids_are id
-        ∙ ap (satisfies test) (item_there (Whole (pos 0)) d.values id below)
-        ∙ ap (λ v. holds v test) (sym full_cell)
+    tested_alike : (ms : List Bool) → get_or ms column false ≡ true → holds (cell (row_by ms k) column) a.by.test ≡ holds (cell other column) test
+    tested_alike ms marked = ap (λ v. holds v a.by.test) (given_cell ms marked) ∙ id_tested id id_below ∙ ap (λ v. holds v test) (sym own_value)
 
-    pass_alike : all_hold (row_by k) asked.conjuncts ≡ all_hold other query.conjuncts
-    pass_alike =
-        ap (all_hold (row_by k)) a.by.only
-        ∙ ap (λ b. b && true) tested_alike
-        ∙ ap (all_hold other) (sym a.alone.only)
+    pass_alike : (ms : List Bool) → get_or ms column false ≡ true → all_hold (row_by ms k) (One column a.by.test ∷ []) ≡ all_hold other (One column test ∷ [])
+    pass_alike ms marked = ap (λ b. b && true) (tested_alike ms marked)
 
   -- ---- all rows
 
-  rows_long : length (rows_of (table_read files given marks)) ≡ length os
-  rows_long = length-rows head.rows (columns_read files given 0 marks) (all_long files given 0 marks) ∙ length_os
+  rows_os : head.rows ≡ length os
+  rows_os = tells.rows_are
     where
       tells : TellsOf table os head
       tells = let i = a.image in tells_law table i.name i.file rows i.whole head a.valid i.named i.can i.is_head i.part
 
-      length_os : head.rows ≡ length os
-      length_os = tells.rows_are
+  rows_long : length (rows_of (table_read files given marks)) ≡ length os
+  rows_long = length-rows head.rows (columns_read files given 0 marks) (all_long files given 0 marks) ∙ rows_os
+
+  all_marked : AreMarked marks
+  all_marked c named = mark-is c (named_too query column test a.alone c named)
 
   rows_alike : AllZip (IsAlike (query_names (unfiltered query)) (λ row. all_hold row asked.conjuncts) (λ row. all_hold row query.conjuncts)) (rows_of (table_read files given marks)) os
   rows_alike = zip_from (IsAlike (query_names (unfiltered query)) (λ row. all_hold row asked.conjuncts) (λ row. all_hold row query.conjuncts)) (rows_of (table_read files given marks)) os rows_long each
@@ -312,12 +345,65 @@ module _ (read : ImagesRead) (tells_law : HeadTells) (query asked : BoundQuery) 
       each k row other at there =
           let long = length-rows head.rows (columns_read files given 0 marks) (all_long files given 0 marks) in
           let lt : k < head.rows = omega (arith, within_list (rows_of (table_read files given marks)) k row at, long) in
-          let found : Some (row_by k) ≡ Some row = sym (row-at head.rows k (columns_read files given 0 marks) lt (all_long files given 0 marks)) ∙ at in
-          let same : row_by k ≡ row = cc in
-          subst (λ r. IsAlike (query_names (unfiltered query)) (λ row. all_hold row asked.conjuncts) (λ row. all_hold row query.conjuncts) r other) same (given_agrees k other there lt, pass_alike k other there lt)
+          let found : Some (row_by marks k) ≡ Some row = sym (row-at head.rows k (columns_read files given 0 marks) lt (all_long files given 0 marks)) ∙ at in
+          let same : row_by marks k ≡ row = cc in
+          let passes : all_hold (row_by marks k) asked.conjuncts ≡ all_hold other query.conjuncts =
+          ap (all_hold (row_by marks k)) a.by.only ∙ pass_alike k other there lt marks (mark-is column (own_named query column test a.alone)) ∙ ap (all_hold other) (sym a.alone.only) in
+          subst (λ r. IsAlike (query_names (unfiltered query)) (λ row. all_hold row asked.conjuncts) (λ row. all_hold row query.conjuncts) r other) same (given_agrees k other there lt marks all_marked, passes)
 
   pub read_alike : ReadAlike query asked table files rows head column count
   read_alike =
       subst (λ ms. AgreeAll (query_names (unfiltered query)) (filter (λ row. all_hold row asked.conjuncts) (rows_of (table_read files given ms))) (filter (λ row. all_hold row query.conjuncts) os))
       (sym (same_marks query column test a.alone asked ids a.by table))
       (kept_alike (query_names (unfiltered query)) (λ row. all_hold row asked.conjuncts) (λ row. all_hold row query.conjuncts) (rows_of (table_read files given marks)) os rows_alike)
+
+  -- ---- the rows of documents
+
+  module _ (cs : List IndexChoice) where
+    abbrev rest_marks : List Bool
+    rest_marks = names_in (rest_of asked cs) table
+
+    rest_marked : (c : ℕ) → c < length table.schema.fields → query_names (rest_of asked cs) c ≡ true → get_or rest_marks c false ≡ true
+    rest_marked c lt named = let plain : 0 + c ≡ c = omega arith in get_or-map-range_with_len (query_names (rest_of asked cs)) 0 (length table.schema.fields) c c false lt plain ∙ named
+
+    others_marked : AreMarked rest_marks
+    others_marked c named =
+        rest_marked c (columns_few table full c full_head (full_loaded c (named_too query column test a.alone c named)))
+        (more_true (list_any (conjunct_names c) (unserved cs asked.conjuncts)) (is_in asked.groups c) (list_any (agg_names c) asked.aggs)
+        ((λ i. (false || is_in (a.by.groups_same i) c) || list_any (agg_names c) (a.by.aggs_same i)) ∙ named))
+
+    own_marked : unserved cs asked.conjuncts ≡ One column a.by.test ∷ [] → get_or rest_marks column false ≡ true
+    own_marked is =
+        rest_marked column a.within
+        ((λ i. (list_any (conjunct_names column) (is i) || is_in asked.groups column) || list_any (agg_names column) asked.aggs)
+        ∙ (λ i. (((eq-eqb column column refl i) || false) || is_in asked.groups column) || list_any (agg_names column) asked.aggs))
+
+    -- those that pass both alike
+    abbrev DocsAlike : List ℕ → Type 0
+    DocsAlike ds = AgreeAll (query_names (unfiltered query)) (selected_docs asked cs files given rest_marks ds) (selected (rest_of query cs) (map (λ k. get_or os k []) ds))
+
+    docs_by : ((k : ℕ) (other : List Value) → slice_get os k ≡ Some other → k < head.rows → all_hold (row_by rest_marks k) (unserved cs asked.conjuncts) ≡ all_hold other (unserved cs query.conjuncts)) → (ds : List ℕ) → All (λ k. k < length os) ds → DocsAlike ds
+    docs_by passes ds within =
+        kept_alike (query_names (unfiltered query)) (λ row. all_hold row (unserved cs asked.conjuncts)) (λ row. all_hold row (unserved cs query.conjuncts)) (rows_at (columns_read files given 0 rest_marks) ds) (map (λ k. get_or os k []) ds) (zip ds within)
+      where
+        zip : (ds : List ℕ) → All (λ k. k < length os) ds
+            → AllZip (IsAlike (query_names (unfiltered query)) (λ row. all_hold row (unserved cs asked.conjuncts)) (λ row. all_hold row (unserved cs query.conjuncts))) (rows_at (columns_read files given 0 rest_marks) ds) (map (λ k. get_or os k []) ds)
+        zip [] within = tt
+        zip (k ∷ ks) within =
+            let lt : k < length os = All-head (λ k. k < length os) k ks within in
+            let there = item_there [] os k lt in
+            let in_rows : k < head.rows = omega (arith, lt, rows_os) in
+            ((given_agrees k (get_or os k []) there in_rows rest_marks others_marked, passes k (get_or os k []) there in_rows), zip ks (All-tail (λ k. k < length os) k ks within))
+
+    docs_served : unserved cs asked.conjuncts ≡ [] → unserved cs query.conjuncts ≡ [] → (ds : List ℕ) → All (λ k. k < length os) ds → DocsAlike ds
+    docs_served by_is is ds within = docs_by (λ k other there in_rows. ap (all_hold (row_by rest_marks k)) by_is ∙ sym (ap (all_hold other) is)) ds within
+
+    docs_tested : unserved cs asked.conjuncts ≡ One column a.by.test ∷ [] → unserved cs query.conjuncts ≡ One column test ∷ [] → (ds : List ℕ) → All (λ k. k < length os) ds → DocsAlike ds
+    docs_tested by_is is ds within =
+        docs_by (λ k other there in_rows. ap (all_hold (row_by rest_marks k)) by_is ∙ pass_alike k other there in_rows rest_marks (own_marked by_is) ∙ sym (ap (all_hold other) is)) ds within
+
+  pub docs_alike : (c : IndexChoice) (ds : List ℕ) → All (λ k. k < length os) ds → AgreeAll (query_names (unfiltered query)) (selected_docs asked (c ∷ []) files given (names_in (rest_of asked (c ∷ [])) table) ds) (selected (rest_of query (c ∷ [])) (map (λ k. get_or os k []) ds))
+  docs_alike Unindexed ds within = docs_tested (Unindexed ∷ []) (λ i. unserved (Unindexed ∷ []) (a.by.only i)) (λ i. unserved (Unindexed ∷ []) (a.alone.only i)) ds within
+  docs_alike Range ds within = docs_tested (Range ∷ []) (λ i. unserved (Range ∷ []) (a.by.only i)) (λ i. unserved (Range ∷ []) (a.alone.only i)) ds within
+  docs_alike Sorted ds within = docs_served (Sorted ∷ []) (λ i. unserved (Sorted ∷ []) (a.by.only i)) (λ i. unserved (Sorted ∷ []) (a.alone.only i)) ds within
+  docs_alike Inverted ds within = docs_served (Inverted ∷ []) (λ i. unserved (Inverted ∷ []) (a.by.only i)) (λ i. unserved (Inverted ∷ []) (a.alone.only i)) ds within

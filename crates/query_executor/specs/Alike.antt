@@ -16,9 +16,9 @@ use Rattle.segment_file.specs.Ordered.{ordered}
 use Rattle.segment_file.specs.declared.part.Part.{Part}
 use Rattle.segment_head.specs.Heads.{Seen, with_dictionary}
 use Rattle.segment_file.specs.Image.{dictionary_of}
+use Rattle.segment_plan.specs.declared.plans.IndexChoice.{IndexChoice}
 use Rattle.segment_plan.specs.declared.plans.ScanPlan.{ScanPlan}
 use Rattle.segment_plan.specs.declared.plans.SegmentPlan.TheVariants.{Scan}
-use Rattle.segment_plan.specs.Choices.{IsUnindexed}
 use Rattle.segment_plan.specs.Named.{names_in, query_names}
 use Rattle.segment_plan.specs.Planned.{plan_over}
 use Rattle.segment_plan.specs.Pruning.{is_pruned}
@@ -26,7 +26,7 @@ use Rattle.segment_scan.specs.Agreement.{AgreeAll}
 use Rattle.segment_scan.specs.Images.{AreDocs, AreRead, IsBadIn, LogsScan, LogsScanPartly, choices_for}
 use Rattle.segment_scan.specs.Scans.{selected_read}
 use Rattle.segment_head.specs.ColumnIds.{with_ids}
-use Rattle.segment_opening.specs.Found.{unfiltered}
+use Rattle.segment_opening.specs.Found.{IsFixed, unfiltered}
 use Rattle.query_executor.specs.ByIds.{IsAskedOf}
 
 -- the rows that are read by ids and satisfy the filter agree, in the group columns and those of the
@@ -54,7 +54,9 @@ pub record IsAlike (query asked : BoundQuery) (table : Table) (files : Files)
   pub overfull : (added : List (List Value)) (old : KeptGroups)
       → AreRead asked table files (with_ids column count head) added → IsOverfull asked added old
       → IsOverfull query (selected query (ordered table.settings.sorted rows)) old
-  pub docs : (n : ℕ) → AreDocs asked table (Some files) (with_ids column count head) n
+  pub docs : (n : ℕ) (a b : Option (List Entry))
+      → AreDocs asked table (Some files) (with_ids column count head) n
+      → LogsScan asked table (Some files) (with_ids column count head) n a b
       → AreDocs query table (Some files) (with_own table rows column head) n
   pub logs : (n : ℕ) (a b : Option (List Entry))
       → LogsScan asked table (Some files) (with_ids column count head) n a b
@@ -69,11 +71,11 @@ pub record IsAlike (query asked : BoundQuery) (table : Table) (files : Files)
       → plan.choices ≡ choices_for asked table (with_ids column count head)
       → Scan plan ≡ plan_over query table (ordered table.settings.sorted rows)
 
--- so it is where the column has no index, and some id was found
+-- so it is where the index of the column is the same for each test, and some id was found
 abbrev pub IdsAreAlike : Type 0
 IdsAreAlike =
     (query asked : BoundQuery) (table : Table) (files : Files) (rows : List (List Value))
-    (head : Seen) (column : ℕ) (test : Test) (count : ℕ) (ids : List ℕ)
+    (head : Seen) (column : ℕ) (test : Test) (choice : IndexChoice) (count : ℕ) (ids : List ℕ)
     → IsAskedOf query asked table files rows head column test count ids
-    → IsUnindexed table.settings column → ids ≢ []
+    → IsFixed table.settings column choice → ids ≢ []
     → IsAlike query asked table files rows head column count

@@ -2,7 +2,6 @@
 ghost use Rattle.group_table.specs.Pooled.{IsTableIn, StaysIn, in_pool};
 ghost use Rattle.std.specs.Prelude.{◌≡◌, ◌∷◌, [], IfOk};
 ghost use Rattle.outside.specs.Seen.{seen};
-ghost use Rattle.segment_plan.specs.declared.plans.IndexChoice.TheVariants as spec;
 ghost use Rattle.segment_reads.specs.Looked.{IsDoneIn};
 ghost use Rattle.query_executor.specs.ByIds.{CanAskByIds};
 ghost use Rattle.query_executor.specs.Passes.{AddsSegment, HasRoomFor};
@@ -43,8 +42,8 @@ pub(crate) fn add_by_ids<S: Shelf>(
     requires pooled { IsTableIn groups.old pool.old }
     requires room { HasRoomFor asked.now.query.now (in_pool groups.old pool.old) }
     requires can { CanAskByIds asked.now.query.now asked.now.table.now (S.held shelf.old)
-        asked.now.segment.now head.old found.now.column found.now.matched.count
-        found.now.matched.ids }
+        asked.now.segment.now head.old found.now.column found.now.choice
+        found.now.matched.count found.now.matched.ids }
     ensures adds { AddsSegment asked.now.query.now asked.now.table.now asked.now.segment.now
         (in_pool groups.old pool.old) (in_pool groups.new pool.new)
         (seen S.Shelf shelf.old) (seen S.Shelf shelf.new) result }
@@ -60,7 +59,7 @@ pub(crate) fn add_by_ids<S: Shelf>(
     let alloc = rooms.alloc();
     head.keep_ids(alloc, found.column, found.matched.count)?;
     let by_ids = asked_by_ids(alloc, asked.query, found.column, &found.matched.ids)?;
-    let plan = unindexed(alloc)?;
+    let plan = plan_by(alloc, found.choice)?;
     match scan_segment(
         rooms,
         shelf,
@@ -79,11 +78,11 @@ pub(crate) fn add_by_ids<S: Shelf>(
     }
 }
 
-// The plan to look at all rows for one conjunct.
-fn unindexed(alloc: Global) -> Result<ScanPlan, NoMemory>
-    ensures { IfOk result (λ plan. plan.choices ≡ spec.Unindexed ∷ []) }
+// The plan to scan for one conjunct by this choice.
+fn plan_by(alloc: Global, choice: IndexChoice) -> Result<ScanPlan, NoMemory>
+    ensures { IfOk result (λ plan. plan.choices ≡ choice ∷ []) }
 {
     let mut choices = Seq::with_capacity(alloc, 1)?;
-    choices.push(IndexChoice::Unindexed)?;
+    choices.push(choice)?;
     Ok(ScanPlan { choices })
 }

@@ -1,11 +1,11 @@
 -- Ids that are read as they are packed.
-use Rattle.std.proofs.Common.{◌≡◌, ◌∙◌, ◌<◌, ◌≤◌, ◌+◌, ◌-◌, ◌*◌, ◌/◌, ◌%◌, ℕ, List, [], ◌∷◌, ◌++◌, length, All, Option, Some, IfSome, OnOk, OnErr, IfErr, Result, Ok, Err, refl, sym, ap, subst, arith}
+use Rattle.std.proofs.Common.{◌≡◌, ◌∙◌, ◌<◌, ◌≤◌, ◌+◌, ◌-◌, ◌*◌, ◌/◌, ◌%◌, ℕ, List, [], ◌∷◌, ◌++◌, length, All, Option, Some, IfSome, OnOk, OnErr, IfErr, Result, Ok, Err, refl, sym, ap, subst, arith, le_refl}
 use Rattle.outside.specs.Files.{Files}
 use Rattle.outside.specs.Reads.{Entry}
 use Rattle.outside.specs.Seen.{Seen}
 use Rattle.outside.specs.declared.place.Place.{Place}
 use Rattle.std.specs.Result.{IsErr, IsErrAnd}
-use Rattle.outside.proofs.ReadLemmas.{LogsOn-through, logs-none}
+use Rattle.outside.proofs.ReadLemmas.{LogsOn-through, logs-none, logs-up}
 use Rattle.outside.proofs.SeenLemmas.{reads_none, reads_so}
 use Rattle.bit_column.specs.Bits.{bits_of, pieces}
 use Rattle.bit_column.specs.Column.{ids_between}
@@ -22,13 +22,6 @@ use Rattle.segment_build.specs.FileReads.{LogsFile, LogsOnce, file_up}
 use Rattle.segment_build.specs.FileLaws.{on_ok_then}
 use Rattle.segment_check.proofs.HeadLemmas.{placed_in, range_read}
 use Rattle.segment_check.proofs.Once.{range_once}
-
--- no ids
-pub no_ids : (width rows : ℕ) (bytes : List ℕ) → rows ≡ 0 → ids_between width 0 rows bytes ≡ []
-no_ids width rows bytes none = let e : rows - 0 ≡ 0 = omega (arith, none) in ap (λ n. pieces width (0 * width) n (bits_of 8 bytes)) e
-
-pub none_long : (l : List ℕ) → length l ≡ 0 → l ≡ []
-none_long l none = elim l as (λ xs. length xs ≡ 0 → xs ≡ []) [ [] ↦ λ e. refl | x ∷ xs ↦ λ e. absurd (omega (arith, e)) ] none
 
 -- nothing is read where there is no room for the ids
 pub growth_range : {A : Type 0} (r : Result A ColumnFault) (place : Place) (width count rows : ℕ) (old : Seen) → IsErr r × IsErrAnd r (λ f. f ≡ NoMemory) → ReadsRange r place width count 0 rows old old
@@ -98,6 +91,27 @@ module _ (u : Unit {0}) (place : Place) (width from to long : ℕ) (read bytes :
       is_other : (r : Result (Unit {0}) ColumnFault) → IfErr r (λ fault. fault ≡ BadId) → r ≡ Err ReadFault → ⊥
       is_other (Ok x) h is = absurd cc
       is_other (Err e) h is = let own : e ≡ BadId = h in absurd cc
+
+-- ---- ids that are copied after they were read
+
+pub copied_reads : {A : Type 0} (u : Unit {0}) (r : Result A ColumnFault) (place : Place) (width count from to : ℕ) (old new : Seen) → IfErr r (λ fault. fault ≡ NoMemory)
+    → ReadsRange (Ok u) place width count from to old new → ReadsRange r place width count from to old new
+copied_reads u (Ok x) place width count from to old new only reads = record {
+  only_reads = reads_so _ _ old new (λ err. absurd cc) (λ err. absurd cc) reads.only_reads;
+  log = reads.log;
+  log_of_fault = tt;
+  past = reads.past;
+  bad = λ err. absurd cc;
+}
+copied_reads u (Err e) place width count from to old new only reads =
+    let no : e ≡ NoMemory = only in
+    record {
+      only_reads = reads_so _ _ old new (λ err. absurd cc) (λ err. absurd cc) reads.only_reads;
+      log = tt;
+      log_of_fault = logs-up place.file (place.offset + first_byte width from) (place.offset + end_byte width from to) (place.offset + end_byte width from to) old.log new.log new.log (le_refl _) reads.log refl;
+      past = reads.past;
+      bad = λ err. absurd cc;
+    }
 
 -- ---- the reads of a column
 

@@ -1,5 +1,5 @@
 //! The columns of a file are read by the ids of their values.
-ghost use Rattle.std.specs.Prelude.{◌≡◌, ◌<◌, ◌++◌, ◌∷◌, [], ℕ, List, IfOk, IsSome, OnOk, length};
+ghost use Rattle.std.specs.Prelude.{◌≡◌, ◌≤◌, ◌<◌, ◌++◌, ◌∷◌, [], ℕ, List, IfErr, IfOk, IsSome, OnOk, length};
 ghost use Rattle.outside.specs.Seen.{seen};
 ghost use Rattle.bit_column.specs.Column.{width_of};
 ghost use Rattle.bit_column.specs.Reading.{ReadsRange};
@@ -11,7 +11,7 @@ ghost use Rattle.segment_check.specs.Coded.{ReadsCoded, ReadsCodedColumn};
 ghost use Rattle.segment_check.specs.Reading.{IsSomeHead, LogsColumn};
 
 use crate::head::FileHead;
-use bit_column::{ColumnFault, IdRange, Width, append_narrow, append_range, width_for};
+use bit_column::{ColumnFault, IdRange, NarrowIds, Width, append_narrow, append_range, width_for};
 use csv_text::CodedColumn;
 use outside::{NoMemory, Place, Shelf};
 use row_ids::RowIds;
@@ -35,8 +35,9 @@ pub(crate) fn read_coded<'a, S: Shelf>(
 {
     let count = table.schema.fields.len();
     let mut columns = Vec::new(alloc);
+    let mut room = NarrowIds::with_room(alloc, 0)?;
     'columns: for at in 0..count {
-        match read_coded_column(alloc, shelf, &read.head, at as u16) {
+        match read_coded_column(alloc, shelf, &read.head, at as u16, &mut room) {
             Ok(column) => {
                 if let Err(_) = keep(column, &mut columns) {
                     return Err(HeadFault::NoMemory);
@@ -55,12 +56,14 @@ fn keep<'a>(column: CodedColumn<'a>, columns: &mut Vec<CodedColumn<'a>>) -> Resu
     Ok(())
 }
 
-/// A column, whose values are those of its dictionary.
+/// A column, whose values are those of its dictionary. Its ids are read into room that is used
+/// again.
 pub(crate) fn read_coded_column<'a, S: Shelf>(
     alloc: Global,
     shelf: &mut S,
     head: &'a Head,
     column: u16,
+    room: &mut NarrowIds,
 ) -> Result<CodedColumn<'a>, HeadFault>
     requires loaded { IsLoaded head.now column }
     requires placed { IsSome (place_in head.now.sections (part.Forward column)) }
@@ -74,7 +77,7 @@ pub(crate) fn read_coded_column<'a, S: Shelf>(
         unreachable!();
     };
     let dictionary = head.dictionary(column);
-    match read_ids(alloc, shelf, place, dictionary.count(), head.rows()) {
+    match read_ids(alloc, shelf, place, dictionary.count(), head.rows(), room) {
         Ok(ids) => Ok(CodedColumn { dictionary, ids }),
         Err(ColumnFault::BadId) => Err(HeadFault::NotASegment(Part::Forward(column))),
         Err(ColumnFault::ReadFault) => Err(HeadFault::ReadFault),
@@ -89,6 +92,7 @@ fn read_ids<S: Shelf>(
     place: &Place,
     count: u32,
     rows: u32,
+    room: &mut NarrowIds,
 ) -> Result<RowIds, ColumnFault>
     ensures ids { IfOk result (λ ids. AppendsRange (S.held shelf.old) place.now
         (width_of count) count 0 rows [] ids) }
@@ -103,17 +107,45 @@ fn read_ids<S: Shelf>(
         from: 0,
         to: rows,
     };
-    let mut buffer = Vec::new(alloc);
     if range.width.bits <= 16 {
-        let mut ids = Vec::new(alloc);
-        return match append_narrow(alloc, shelf, place, range, &mut buffer, &mut ids) {
-            Ok(()) => Ok(RowIds::from_narrow(ids)),
-            Err(fault) => Err(fault),
-        };
+        return read_narrow(alloc, shelf, place, range, room);
     }
+    let mut buffer = Vec::new(alloc);
     let mut ids = Vec::new(alloc);
     match append_range(alloc, shelf, place, range, &mut buffer, &mut ids) {
         Ok(()) => Ok(RowIds::from_wide(ids)),
         Err(fault) => Err(fault),
     }
+}
+
+// The ids of a range in two bytes each.
+fn read_narrow<S: Shelf>(
+    alloc: Global,
+    shelf: &mut S,
+    place: &Place,
+    range: IdRange,
+    room: &mut NarrowIds,
+) -> Result<RowIds, ColumnFault>
+    requires { range.width.bits ≤ 16 }
+    ensures ids { IfOk result (λ ids. AppendsRange (S.held shelf.old) place.now
+        range.width.bits range.count range.from range.to [] ids) }
+    ensures reads { ReadsRange result place.now range.width.bits range.count range.from range.to
+        (seen S.Shelf shelf.old) (seen S.Shelf shelf.new) }
+{
+    room.clear();
+    let mut buffer = Vec::new(alloc);
+    match append_narrow(alloc, shelf, place, range, &mut buffer, room) {
+        Ok(()) => copied(alloc, room),
+        Err(fault) => Err(fault),
+    }
+}
+
+// A copy of ids in two bytes each.
+fn copied(alloc: Global, ids: &NarrowIds) -> Result<RowIds, ColumnFault>
+    ensures same { IfOk result (λ all. all ≡ ids.now) }
+    ensures only { IfErr result (λ fault. fault ≡ ColumnFault.NoMemory) }
+{
+    let mut all = Vec::new(alloc);
+    all.extend_from_slice(ids.as_slice())?;
+    Ok(RowIds::from_narrow(all))
 }

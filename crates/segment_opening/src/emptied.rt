@@ -69,7 +69,7 @@ fn matches_none<S: Shelf>(
         return Ok(false);
     }
     match find(alloc, shelf, table, head, *column, test) {
-        Ok(Some(found)) => Ok(found.matched.ids.is_empty()),
+        Ok(Some(matched)) => Ok(matched.ids.is_empty()),
         Ok(None) => Ok(false),
         Err(fault) => Err(fault),
     }

@@ -1,15 +1,17 @@
 //! A column that a query tests alone is looked up where its dictionary lies.
-ghost use Rattle.std.specs.Prelude.{◌≡◌, ◌≤◌, ◌<◌, ◌∷◌, [], false, true, IfOk, IfSome, OnOk, length};
+ghost use Rattle.std.specs.Prelude.{◌≡◌, ◌≤◌, ◌<◌, ◌∷◌, [], false, true, IfOk, IfSome, OnOk, length, slice_get};
 ghost use Rattle.outside.specs.Seen.{seen};
 ghost use Rattle.values.specs.declared.test.Test as tests;
 ghost use Rattle.value_ids.specs.Dictionary.{most_values};
+ghost use Rattle.table_schema.specs.NeedIds.{is_set};
 ghost use Rattle.table_schema.specs.declared.query.Conjunct.TheVariants.{One};
 ghost use Rattle.segment_head.specs.Calls.{IsColumnOf};
 ghost use Rattle.segment_head.specs.Heads.{OfWhole};
 ghost use Rattle.segment_head.specs.Lookups.{OfColumn};
+ghost use Rattle.segment_plan.specs.Choices as spec;
 ghost use Rattle.segment_plan.specs.Named.{AreNamedLoaded, MarksColumns, query_names};
 ghost use Rattle.segment_opening.specs.Calls.{IsQueryOnHead, LoadsMore, LooksUp};
-ghost use Rattle.segment_opening.specs.Found.{IsFound, IsFoundIn, unfiltered};
+ghost use Rattle.segment_opening.specs.Found.{IsFixed, IsFound, IsFoundIn, unfiltered};
 
 use crate::emptied::{is_large, names_few};
 use crate::loading::load_marked;
@@ -18,18 +20,21 @@ use segment_file::HeadFault;
 use segment_head::{EngineFault, Head, Matched, NoMemory};
 use segment_plan::{IndexChoice, is_indexed, named_columns};
 use std::alloc::Global;
-use table_schema::{BoundQuery, Conjunct, Table};
+use table_schema::{BoundQuery, Conjunct, Settings, Table};
 use values::Test;
 
 /// What was found in the dictionary of a column that a query tests alone.
 #[derive(Drop)]
 pub struct Found {
     pub column: u16,
+    /// The index of the column.
+    pub choice: IndexChoice,
     pub matched: Matched,
 }
 
-/// Looks up the column of a query that tests one column, which has no index and a large dictionary,
-/// and asks no more of it; unless a star-tree answers. Bounds are cut where the dictionary lies.
+/// Looks up the column of a query that tests one column, which has a large dictionary and no range
+/// index, and asks no more of it; unless a star-tree answers. Bounds are cut where the dictionary
+/// lies.
 pub(crate) fn look_up<S: Shelf>(
     alloc: Global,
     shelf: &mut S,
@@ -41,7 +46,7 @@ pub(crate) fn look_up<S: Shelf>(
     requires { IsQueryOnHead query.now table.now head.now }
     ensures untreed { IfOk result (λ found. IfSome found (λ f. by_tree ≡ false)) }
     ensures found { IfOk result (λ found. IfSome found (λ f.
-        IsFound query.now table.now (S.held shelf.old) head.now f.column f.matched)) }
+        IsFound query.now table.now (S.held shelf.old) head.now f.column f.choice f.matched)) }
     ensures looks { LooksUp table.now result head.now
         (seen S.Shelf shelf.old) (seen S.Shelf shelf.new) }
 {
@@ -52,14 +57,25 @@ pub(crate) fn look_up<S: Shelf>(
     let Conjunct::One(column, test) = &conjuncts[0] else {
         return Ok(None);
     };
-    if !is_large(head, *column) || !names_few(test) || is_indexed(&table.settings, *column) {
+    if !is_large(head, *column) || !names_few(test) {
         return Ok(None);
     }
+    let Some(choice) = fixed_choice(&table.settings, *column) else {
+        return Ok(None);
+    };
     let others = other_columns(alloc, query, table.schema.fields.len())?;
     if others[*column as usize] {
         return Ok(None);
     }
-    find(alloc, shelf, table, head, *column, test)
+    match find(alloc, shelf, table, head, *column, test) {
+        Ok(Some(matched)) => Ok(Some(Found {
+            column: *column,
+            choice,
+            matched,
+        })),
+        Ok(None) => Ok(None),
+        Err(fault) => Err(fault),
+    }
 }
 
 /// How many values a column has, and the ids of those that satisfy a test, unless its dictionary is
@@ -71,18 +87,16 @@ pub(crate) fn find<S: Shelf>(
     head: &Head,
     column: u16,
     test: &Test,
-) -> Result<Option<Found>, EngineFault>
+) -> Result<Option<Matched>, EngineFault>
     requires { IsColumnOf table.now head.now column }
-    ensures column { IfOk result (λ found. IfSome found (λ f. f.column ≡ column)) }
-    ensures found { IfOk result (λ found. IfSome found (λ f.
-        OfWhole table.now (S.held shelf.old) head.now
-        (OfColumn column (IsFoundIn test.now f.matched)))) }
-    ensures few { IfOk result (λ found. IfSome found (λ f. f.matched.count ≤ most_values)) }
+    ensures found { IfOk result (λ found. IfSome found (λ m.
+        OfWhole table.now (S.held shelf.old) head.now (OfColumn column (IsFoundIn test.now m)))) }
+    ensures few { IfOk result (λ found. IfSome found (λ m. m.count ≤ most_values)) }
     ensures looks { LooksUp table.now result head.now
         (seen S.Shelf shelf.old) (seen S.Shelf shelf.new) }
 {
     match head.matched(alloc, shelf, table, column, test) {
-        Ok(matched) => Ok(Some(Found { column, matched })),
+        Ok(matched) => Ok(Some(matched)),
         Err(HeadFault::NotASegment(_)) => Ok(None),
         Err(HeadFault::ReadFault) => Err(EngineFault::ReadFault),
         Err(HeadFault::NoMemory) => Err(EngineFault::NoMemory),
@@ -118,4 +132,38 @@ fn other_columns(alloc: Global, query: &BoundQuery, count: usize) -> Result<Vec<
         (query_names (unfiltered query.now)) }
 {
     named_columns(alloc, query, &[IndexChoice::Sorted], count)
+}
+
+// The index by which the rows of a conjunct on the column are found, where it is the same for each
+// test.
+fn fixed_choice(settings: &Settings, column: u16) -> Option<IndexChoice>
+    ensures { IfSome result (λ choice. IsFixed settings.now column choice) }
+{
+    if !is_indexed(settings, column) {
+        return Some(IndexChoice::Unindexed);
+    }
+    if is_sorted_on(settings, column) {
+        return Some(IndexChoice::Sorted);
+    }
+    if is_inverted(settings, column) {
+        return Some(IndexChoice::Inverted);
+    }
+    None
+}
+
+// The column is the sorted one.
+fn is_sorted_on(settings: &Settings, column: u16) -> bool
+    ensures { result ≡ spec.is_sorted_on settings.now.sorted column }
+{
+    matches!(settings.sorted, Some(sorted) if sorted == column)
+}
+
+// The column has an inverted index.
+fn is_inverted(settings: &Settings, column: u16) -> bool
+    ensures { result ≡ is_set (slice_get settings.now.inverted column) }
+{
+    matches!(
+        settings.inverted.as_slice().get(column as usize),
+        Some(true)
+    )
 }

@@ -215,10 +215,10 @@ module _ (law : ImagesRead) (leave : ImagesLeave) (query : BoundQuery) (table : 
     left_count = sym (length-map docs at_doc) ∙ ap length rows_are
 
     module _ (unsure check sure : List ℕ) (has : HasUnsureFor query table (Some files) head unsure) (parts : AreParts docs unsure check sure) where
-      check_within : All (λ k. k < length os) check
+      pub check_within : All (λ k. k < length os) check
       check_within = part_all (λ k. k < length os) docs check (has_doc unsure) parts.checks docs_within
 
-      sure_within : All (λ k. k < length os) sure
+      pub sure_within : All (λ k. k < length os) sure
       sure_within = part_all (λ k. k < length os) docs sure (λ d. not (has_doc unsure d)) parts.sures docs_within
 
       -- a document that is sure satisfies the conjunct of each range index
@@ -253,7 +253,7 @@ module _ (law : ImagesRead) (leave : ImagesLeave) (query : BoundQuery) (table : 
           there_lt (y ∷ ys) zero x there = omega arith
           there_lt (y ∷ ys) (suc k) x there = omega (arith, there_lt ys k x there)
 
-      permuted : IsPermutation (selected query os) (selected rest (map at_doc check) ++ selected others (map at_doc sure))
+      pub permuted : IsPermutation (selected query os) (selected rest (map at_doc check) ++ selected others (map at_doc sure))
       permuted =
           let lv = leave query table files rows head valid of_table loaded of in
           let those = left.told lv.ids lv.tells in

@@ -27,6 +27,7 @@ scan_segment-requires g c =
     let segment = c.args.asked.now.segment.now in
     let head = c.args.head.now in
     let column = c.args.found.now.column in
+    let choice = c.args.found.now.choice in
     let count = c.args.found.now.matched.count in
     let ids = c.args.found.now.matched.ids in
     let a : outside.Seen = seen g.S.Shelf c.args.shelf.now in
@@ -41,12 +42,12 @@ scan_segment-requires g c =
       pooled = c.requires.pooled;
       scans = subst (λ h. IsScannable asked table h h.rows groups) (sym kept) (record {
         valid = can.valid;
-        of_table = given_head query asked table segment head column count ids by a.held can;
-        loaded = given_loaded query asked table segment head column count ids by a.held can;
-        of_query = of_asked query asked table segment head column count ids by groups c.requires.room.of_query;
+        of_table = given_head query asked table segment head column choice count ids by a.held can;
+        loaded = given_loaded query asked table segment head column choice count ids by a.held can;
+        of_query = of_asked query asked table segment head column choice count ids by groups c.requires.room.of_query;
         fits = room table head groups can.opened.of c.requires.room.fits;
       });
-      planned = subst (λ h. plan.choices ≡ choices_for asked table h) (sym kept) (chosen query asked table segment head column count ids by a.held can plan choices);
+      planned = subst (λ h. plan.choices ≡ choices_for asked table h) (sym kept) (chosen query asked table segment head column choice count ids by a.held can plan choices);
     }
 
 pub returns-in_err-keep_ids : goal.returns-in_err-keep_ids
@@ -56,6 +57,7 @@ returns-in_err-keep_ids g c =
     let segment = c.args.asked.now.segment.now in
     let head = c.args.head.now in
     let column = c.args.found.now.column in
+    let choice = c.args.found.now.choice in
     let count = c.args.found.now.matched.count in
     let ids = c.args.found.now.matched.ids in
     let a : outside.Seen = seen g.S.Shelf c.args.shelf.now in
@@ -75,6 +77,7 @@ returns-in_err-by_ids g c =
     let segment = c.args.asked.now.segment.now in
     let head = c.args.head.now in
     let column = c.args.found.now.column in
+    let choice = c.args.found.now.choice in
     let count = c.args.found.now.matched.count in
     let ids = c.args.found.now.matched.ids in
     let a : outside.Seen = seen g.S.Shelf c.args.shelf.now in
@@ -94,6 +97,7 @@ returns-in_err-plan g c =
     let segment = c.args.asked.now.segment.now in
     let head = c.args.head.now in
     let column = c.args.found.now.column in
+    let choice = c.args.found.now.choice in
     let count = c.args.found.now.matched.count in
     let ids = c.args.found.now.matched.ids in
     let a : outside.Seen = seen g.S.Shelf c.args.shelf.now in
@@ -113,6 +117,7 @@ returns-in-Ok g c =
     let segment = c.args.asked.now.segment.now in
     let head = c.args.head.now in
     let column = c.args.found.now.column in
+    let choice = c.args.found.now.choice in
     let count = c.args.found.now.matched.count in
     let ids = c.args.found.now.matched.ids in
     let a : outside.Seen = seen g.S.Shelf c.args.shelf.now in
@@ -130,17 +135,17 @@ returns-in-Ok g c =
     record {
       stays = c.scan_segment.ensures.stays;
       adds = record {
-        added = adds_by_ids query asked table segment head column count ids by c.ids_law.ensures a.held can groups new (subst (λ h. AddsImage asked table a.held h groups new) kept c.in-Ok.ensures.ok);
+        added = adds_by_ids query asked table segment head column choice count ids by c.ids_law.ensures a.held can groups new (subst (λ h. AddsImage asked table a.held h groups new) kept c.in-Ok.ensures.ok);
         opens = can.opened.opening;
         full = λ e. absurd (no_fault _ _ engine.TooManyGroups e);
         filled = λ e. absurd (no_fault _ _ engine.TooManyGroups e);
         bad = λ part e. absurd (no_fault _ _ (engine.NotASegment part) e);
         only_reads = reads_done _ _ docs _ engine.ReadFault a b c.in-Ok.ensures.reads.only_reads;
-        log = scan_in_file asked table _ segment.file can.opened.placed a.held (given_head query asked table segment head column count ids by a.held can) (given_loaded query asked table segment head column count ids by a.held can) docs a.log b.log logs;
-        reads = reads_by_ids query asked table segment head column count ids by c.ids_law.ensures c.image_law.ensures c.index_law.ensures c.head_tells_law.ensures plan choices a.held can docs a.log b.log logs;
+        log = scan_in_file asked table _ segment.file can.opened.placed a.held (given_head query asked table segment head column choice count ids by a.held can) (given_loaded query asked table segment head column choice count ids by a.held can) docs a.log b.log logs;
+        reads = reads_by_ids query asked table segment head column choice count ids by c.ids_law.ensures c.image_law.ensures c.index_law.ensures c.head_tells_law.ensures plan choices a.held can docs a.log b.log logs;
         reads_of_fault = tt;
       };
-      done = done_by_ids query asked table segment head column count ids by c.ids_law.ensures c.image_law.ensures c.head_tells_law.ensures a.held can plan docs choices (subst (λ h. AreDocs asked table a.held h docs) kept c.in-Ok.ensures.count);
+      done = done_by_ids query asked table segment head column choice count ids by c.ids_law.ensures c.image_law.ensures c.head_tells_law.ensures a.held can plan docs choices a.log b.log (subst (λ h. AreDocs asked table a.held h docs) kept c.in-Ok.ensures.count) logs;
     }
 
 pub returns : goal.returns
@@ -150,6 +155,7 @@ returns g c =
     let segment = c.args.asked.now.segment.now in
     let head = c.args.head.now in
     let column = c.args.found.now.column in
+    let choice = c.args.found.now.choice in
     let count = c.args.found.now.matched.count in
     let ids = c.args.found.now.matched.ids in
     let a : outside.Seen = seen g.S.Shelf c.args.shelf.now in
@@ -168,15 +174,15 @@ returns g c =
       adds = record {
         added = tt;
         opens = tt;
-        full = λ e. full_by_ids query asked table segment head column count ids by c.ids_law.ensures a.held can groups
+        full = λ e. full_by_ids query asked table segment head column choice count ids by c.ids_law.ensures a.held can groups
             (subst (λ h. IsImageOverfull asked table a.held h groups) kept (c.in-Err.ensures.full (ap Err (own_fault _ fault engine.TooManyGroups e))));
         filled = λ e. c.in-Err.ensures.filled (ap Err (own_fault _ fault engine.TooManyGroups e));
-        bad = λ part e. bad_by_ids query asked table segment head column count ids by c.ids_law.ensures a.held can part
+        bad = λ part e. bad_by_ids query asked table segment head column choice count ids by c.ids_law.ensures a.held can part
             (subst (λ h. IsBadIn asked table a.held h part) kept (c.in-Err.ensures.bad part (ap Err (own_fault _ fault (engine.NotASegment part) e))));
         only_reads = reads_failed _ _ fault engine.ReadFault a b c.in-Err.ensures.reads.only_reads;
-        log = scan_partly asked table _ segment.file can.opened.placed a.held (given_head query asked table segment head column count ids by a.held can) (given_loaded query asked table segment head column count ids by a.held can) a.log b.log logs;
+        log = scan_partly asked table _ segment.file can.opened.placed a.held (given_head query asked table segment head column choice count ids by a.held can) (given_loaded query asked table segment head column choice count ids by a.held can) a.log b.log logs;
         reads = tt;
-        reads_of_fault = given_up_by_ids query asked table segment head column count ids by c.ids_law.ensures c.image_law.ensures c.index_law.ensures c.head_tells_law.ensures plan choices a.held can a.log b.log logs;
+        reads_of_fault = given_up_by_ids query asked table segment head column choice count ids by c.ids_law.ensures c.image_law.ensures c.index_law.ensures c.head_tells_law.ensures plan choices a.held can a.log b.log logs;
       };
       done = tt;
     }

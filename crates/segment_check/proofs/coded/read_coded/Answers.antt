@@ -1,13 +1,14 @@
-use Rattle.std.proofs.Common.{◌≡◌, ◌∙◌, ◌<◌, ◌+◌, List, [], ◌∷◌, length, map, All, IfSome, refl, sym, ap, subst, arith}
+use Rattle.std.proofs.Common.{◌≡◌, ◌∙◌, ◌<◌, ◌+◌, ℕ, List, [], ◌∷◌, length, map, All, IfSome, refl, sym, ap, subst, arith}
 use Rattle.std.proofs.lemmas.List.{map-append}
 use Rattle.std.proofs.lemmas.List.Elements.{All-nil, All-push}
 use Rattle.outside.specs.Seen.{Seen, seen}
 use Rattle.outside.proofs.SeenLemmas.{reads_after, reads_none, reads_so}
 use Rattle.csv_text.specs.Coded.{IsCodedColumn, listed}
 use Rattle.csv_text.specs.declared.coded.CodedColumn.{CodedColumn}
-use Rattle.segment_file.proofs.Faults.{reads_ended, reads_err, reads_well}
+use Rattle.segment_file.specs.declared.part.Part.TheVariants as parts
+use Rattle.segment_file.proofs.Faults.{growth_bad, growth_ok, growth_reads, reads_ended, reads_err, reads_well}
 use Rattle.segment_build.specs.FileReads.{file_then, file_unread}
-use Rattle.segment_check.specs.Reading.{AreColumns, HasIdsOf, IsColumn}
+use Rattle.segment_check.specs.Reading.{AreColumns, FailsColumn, HasIdsOf, IsColumn}
 use Rattle.segment_check.proofs.ColumnLemmas.{columns_have, columns_more}
 use Rattle.segment_check.proofs.HeadLemmas.{forward_placed}
 use Rattle.segment_check.proofs.RowLemmas.{dictionary_of_head, own_dictionary}
@@ -113,4 +114,19 @@ returns g c =
       only_reads = reads_ended c.columns.columns old mid c.columns.invariant.only_reads;
       log = c.columns.invariant.log;
       once = columns_end c.args.table.now c.args.read.now.head c.columns.at old.log mid.log c.columns.invariant.once;
+    }
+
+pub returns-in_err-room : goal.returns-in_err-room
+returns-in_err-room g c =
+    let table = c.args.table.now in
+    let head = c.args.read.now.head in
+    let old : Seen = seen g.S.Shelf c.args.shelf.now in
+    let r = c.from_residual in
+    record {
+      coded = growth_ok (λ columns. All (IsCodedColumn head.rows) columns.items) r.result r.ensures;
+      columns = growth_ok (λ columns. AreColumns old.held head (length table.schema.fields) (map listed columns.items)) r.result r.ensures;
+      refused = growth_bad (λ p. (column : ℕ) × (p ≡ parts.Forward column) × FailsColumn table old.held head column) r.result r.ensures;
+      only_reads = growth_reads r.result old old r.ensures (reads_none old);
+      log = λ file within. file_unread file old.log old.log refl;
+      once = columns_end table head 0 old.log old.log (columns_start table head old.log old.log refl);
     }

@@ -4,7 +4,7 @@ use Rattle.table_schema.specs.declared.query.Conjunct.TheVariants.{One}
 use Rattle.segment_head.specs.Heads.{OfWhole}
 use Rattle.segment_head.specs.Lookups.{OfColumn}
 use Rattle.segment_opening.specs.Found.{IsFoundIn}
-use Rattle.segment_opening.specs.declared.found.Found.{Found}
+use Rattle.segment_head.specs.declared.column_ids.Matched.{Matched}
 use Rattle.segment_opening.proofs.EmptyLemmas.{matches_same, matches_so, none_of}
 use Rattle.segment_opening.proofs.FoundLemmas.{ids_found, looks_else, looks_err}
 use Rattle.segment_opening.proofs.emptied.matches_none.Goals as goal
@@ -16,8 +16,8 @@ returns-in-Ok-Some-clause-none g c = λ is.
     let seen_head = c.args.head.now in
     let column = c.in-One.column in
     let test = c.in-One.test in
-    let matched = c.in-Ok-Some.found.matched in
-    let told = subst (λ (o : Option Found). IfSome o (λ f. OfWhole table held seen_head (OfColumn column (IsFoundIn test f.matched)))) c.in-Ok-Some.field-0-is c.in-Ok-Some.ensures.found in
+    let matched = c.in-Ok-Some.matched in
+    let told = subst (λ (o : Option Matched). IfSome o (λ m. OfWhole table held seen_head (OfColumn column (IsFoundIn test m)))) c.in-Ok-Some.field-0-is c.in-Ok-Some.ensures.found in
     matches_same table held seen_head (One column test) c.args.conjunct.now (sym c.in-One.is)
     (matches_so table held seen_head column test matched.ids (none_of matched.ids (sym c.is_empty.ensures ∙ is)) (ids_found table held seen_head column test matched told))
 
