@@ -5,5 +5,6 @@ pub mod States
 pub mod Rows
 pub mod Order
 pub mod Merged
+pub mod Sets
 pub mod Tree
 pub mod laws

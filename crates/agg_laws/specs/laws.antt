@@ -11,3 +11,4 @@ pub mod Averages
 pub mod States
 pub mod Rows
 pub mod Order
+pub mod Sets
