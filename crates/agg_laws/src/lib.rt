@@ -22,7 +22,7 @@ pub use counts::Count;
 pub use data_types::NoMemory;
 pub use extremes::{Greatest, Least};
 pub use laws::{aggregates_law, extremes_law, order_law, rows_law, spellings_law, weights_law};
-pub use sets::sets_law;
+pub use sets::{DistinctSet, sets_law};
 pub use states::AggState;
 pub use sums::Sum;
 pub use tree_shape::TreeShape;

@@ -9,11 +9,11 @@ use Rattle.std.specs.List.{list_any, AllByRecursion}
 use Rattle.std.specs.List.Sorted.{IsStrictlySortedBy}
 use Rattle.std.specs.Ordering.{eq_by_cmp, is_lt}
 use Rattle.std.specs.FinMap as finite
-use Rattle.std.specs.FinMap.{FinMap, IsAntisymmetric, find, same_map, get-from_entries, contains_key-keys, len-empty, len-entries, get-entries, entries_sorted}
-use Rattle.std.specs.FinMap.Entries.{is_some-find, same_entries, below_all, is_sorted}
+use Rattle.std.specs.FinMap.{IsAntisymmetric, find, put, same_map, get-from_entries, contains_key-keys, len-empty, len-entries, get-entries, entries_sorted, entries-insert}
+use Rattle.std.specs.FinMap.Entries.{by_order, is_some-find, same_entries, below_all, is_sorted}
 use Rattle.std.proofs.lemmas.List.Folds.{list_any-append}
 use Rattle.std.proofs.lemmas.List.Sorted.{list_any-IsPermutation}
-use Rattle.agg_laws.specs.Sets.{entries_of, set_of, union}
+use Rattle.agg_laws.specs.Sets.{entries_of, set_of, union, IsSet}
 
 same_unit : (a b : Option (Unit {0})) → is_some a ≡ is_some b → a ≡ b
 same_unit None None e = refl
@@ -49,6 +49,56 @@ less_is Greater p = absurd p
 either_assoc : (a b c : Bool) → ((a || b) || c) ≡ (a || (b || c))
 either_assoc true b c = refl
 either_assoc false b c = refl
+
+turned : (a b c : Bool) → ((a || b) || c) ≡ ((a || c) || b)
+turned true b c = refl
+turned false b c = or_comm b c
+
+once : (a b c : Bool) → ((a || c) || (b || c)) ≡ ((a || b) || c)
+once true b c = refl
+once false true true = refl
+once false true false = refl
+once false false true = refl
+once false false false = refl
+
+all_joined : {V : Type 0} (P : V → Type 0) (xs ys : List V) → AllByRecursion P xs → AllByRecursion P ys → AllByRecursion P (xs ++ ys)
+all_joined P [] ys own later = later
+all_joined P (x ∷ xs) ys own later = (own.0, all_joined P xs ys own.1 later)
+
+all_last : {V : Type 0} (P : V → Type 0) (xs : List V) (a : V) → AllByRecursion P (xs ++ a ∷ []) → P a
+all_last P [] a all = all.0
+all_last P (x ∷ xs) a all = all_last P xs a all.1
+
+all_init : {V : Type 0} (P : V → Type 0) (xs : List V) (a : V) → AllByRecursion P (xs ++ a ∷ []) → AllByRecursion P xs
+all_init P [] a all = tt
+all_init P (x ∷ xs) a all = (all.0, all_init P xs a all.1)
+
+-- an end that is above all others
+sorted_end : {V : Type 0} (R : V → V → Ordering) (xs : List V) (a : V) → IsStrictlySortedBy R xs → AllByRecursion (λ y. R y a ≡ Less) xs → IsStrictlySortedBy R (xs ++ a ∷ [])
+unfolding IsStrictlySortedBy
+sorted_end R [] a up below = (tt, tt)
+sorted_end R (x ∷ xs) a up below = (all_joined (λ y. R x y ≡ Less) xs (a ∷ []) up.0 (below.0, tt), sorted_end R xs a up.1 below.1)
+
+pub one_set : {V : Type 0} (R : V → V → Ordering) (v : V) → IsStrictlySortedBy R (v ∷ [])
+unfolding IsStrictlySortedBy
+one_set R v = (tt, tt)
+
+pub init_set : {V : Type 0} (R : V → V → Ordering) (xs : List V) (a : V) → IsStrictlySortedBy R (xs ++ a ∷ []) → IsStrictlySortedBy R xs
+unfolding IsStrictlySortedBy
+init_set R [] a up = tt
+init_set R (x ∷ xs) a up = (all_init (λ y. R x y ≡ Less) xs a up.0, init_set R xs a up.1)
+
+pub init_below : {V : Type 0} (R : V → V → Ordering) (xs : List V) (a : V) → IsStrictlySortedBy R (xs ++ a ∷ []) → AllByRecursion (λ y. R y a ≡ Less) xs
+unfolding IsStrictlySortedBy
+init_below R [] a up = tt
+init_below R (x ∷ xs) a up = (all_last (λ y. R x y ≡ Less) xs a up.0, init_below R xs a up.1)
+
+put_by : {V : Type 0} (P : V → Type 0) (k : V) (e : V × Unit {0}) (es : List (V × Unit {0})) (more : List (V × Unit {0})) (r : Ordering)
+    → P k → AllByRecursion P (map (λ e. e.0) (e ∷ es)) → AllByRecursion P (map (λ e. e.0) more)
+    → AllByRecursion P (map (λ e. e.0) (by_order r ((k, tt) ∷ e ∷ es) ((e.0, tt) ∷ es) (e ∷ more)))
+put_by P k e es more Less own all later = (own, all)
+put_by P k e es more Equal own all later = all
+put_by P k e es more Greater own all later = (all.0, later)
 
 -- whether a value is in the list
 abbrev pub has : {V : Type 0} → (V → V → Ordering) → V → List V → Bool
@@ -123,3 +173,44 @@ module _ {V : Type 0} {R : V → V → Ordering} where
 
       pub set_ascends : (values : List V) → IsStrictlySortedBy R (set_of R values)
       set_ascends values = keys_ascend (finite.entries (finite.from_entries (entries_of values))) (entries_sorted (finite.from_entries (entries_of values)))
+
+      -- ---- the greatest member
+
+      put_all : (P : V → Type 0) (k : V) (es : List (V × Unit {0})) → P k → AllByRecursion P (map (λ e. e.0) es) → AllByRecursion P (map (λ e. e.0) (put R k tt es))
+      put_all P k [] own all = (own, tt)
+      put_all P k (e ∷ es) own all = put_by P k e es (put R k tt es) (R k e.0) own all (put_all P k es own all.1)
+
+      set_all : (P : V → Type 0) (values : List V) → AllByRecursion P values → AllByRecursion P (set_of R values)
+      set_all P [] all = subst (AllByRecursion P) (sym of_none) tt
+      set_all P (v ∷ vs) all = subst (λ es. AllByRecursion P (map (λ e. e.0) es)) (sym (entries-insert o (finite.from_entries (entries_of vs)) v tt))
+          (put_all P v (finite.entries (finite.from_entries (entries_of vs))) all.0 (set_all P vs all.1))
+
+      -- a value above each other is the last of its set
+      pub last : (values : List V) (a : V) → AllByRecursion (λ y. R y a ≡ Less) values → set_of R (values ++ a ∷ []) ≡ set_of R values ++ a ∷ []
+      last values a below = same_sets (values ++ a ∷ []) (set_of R values ++ a ∷ []) (λ q. list_any-append (eq_by_cmp R q) values (a ∷ [])
+          ∙ ap (λ b. b || has R q (a ∷ [])) (sym (has-set q values)) ∙ sym (list_any-append (eq_by_cmp R q) (set_of R values) (a ∷ [])))
+          ∙ ascending (set_of R values ++ a ∷ []) (sorted_end R (set_of R values) a (set_ascends values) (set_all (λ y. R y a ≡ Less) values below))
+
+      below_later : (b a : V) (ys : List V) → R b a ≡ Less → AllByRecursion (λ y. R y b ≡ Less) ys → AllByRecursion (λ y. R y a ≡ Less) ys
+      below_later b a [] less all = tt
+      below_later b a (y ∷ ys) less all = (o.trans y b a all.0 less, below_later b a ys less all.1)
+
+      -- the last of one set is above all of the other
+      pub greater_last : (xs ys : List V) (a b : V) → IsSet R (xs ++ a ∷ []) → IsSet R (ys ++ b ∷ []) → R b a ≡ Less
+          → union R (xs ++ a ∷ []) (ys ++ b ∷ []) ≡ union R xs (ys ++ b ∷ []) ++ a ∷ []
+      greater_last xs ys a b own other less = same_sets ((xs ++ a ∷ []) ++ (ys ++ b ∷ [])) ((xs ++ (ys ++ b ∷ [])) ++ a ∷ []) (λ q.
+          list_any-append (eq_by_cmp R q) (xs ++ a ∷ []) (ys ++ b ∷ []) ∙ ap (λ t. t || has R q (ys ++ b ∷ [])) (list_any-append (eq_by_cmp R q) xs (a ∷ []))
+          ∙ turned (has R q xs) (has R q (a ∷ [])) (has R q (ys ++ b ∷ []))
+          ∙ ap (λ t. t || has R q (a ∷ [])) (sym (list_any-append (eq_by_cmp R q) xs (ys ++ b ∷ []))) ∙ sym (list_any-append (eq_by_cmp R q) (xs ++ (ys ++ b ∷ [])) (a ∷ [])))
+          ∙ last (xs ++ (ys ++ b ∷ [])) a (all_joined (λ y. R y a ≡ Less) xs (ys ++ b ∷ []) (init_below R xs a own)
+          (all_joined (λ y. R y a ≡ Less) ys (b ∷ []) (below_later b a ys less (init_below R ys b other)) (less, tt)))
+
+      -- and where it is the last of both
+      pub same_last : (xs ys : List V) (a : V) → IsSet R (xs ++ a ∷ []) → IsSet R (ys ++ a ∷ [])
+          → union R (xs ++ a ∷ []) (ys ++ a ∷ []) ≡ union R xs ys ++ a ∷ []
+      same_last xs ys a own other = same_sets ((xs ++ a ∷ []) ++ (ys ++ a ∷ [])) ((xs ++ ys) ++ a ∷ []) (λ q.
+          list_any-append (eq_by_cmp R q) (xs ++ a ∷ []) (ys ++ a ∷ []) ∙ ap (λ t. t || has R q (ys ++ a ∷ [])) (list_any-append (eq_by_cmp R q) xs (a ∷ []))
+          ∙ ap (λ t. (has R q xs || has R q (a ∷ [])) || t) (list_any-append (eq_by_cmp R q) ys (a ∷ []))
+          ∙ once (has R q xs) (has R q ys) (has R q (a ∷ []))
+          ∙ ap (λ t. t || has R q (a ∷ [])) (sym (list_any-append (eq_by_cmp R q) xs ys)) ∙ sym (list_any-append (eq_by_cmp R q) (xs ++ ys) (a ∷ [])))
+          ∙ last (xs ++ ys) a (all_joined (λ y. R y a ≡ Less) xs ys (init_below R xs a own) (init_below R ys a other))
