@@ -8,7 +8,7 @@ use Rattle.std.specs.Option.{MatchOption, option_to_list}
 use Rattle.std.specs.Ordering.{ordering_reverse}
 use Rattle.std.specs.FinMap.{IsAntisymmetric}
 use Rattle.agg_laws.specs.Sets.{set_of, union, IsSet, TakesGreatest}
-use Rattle.agg_laws.specs.laws.Sets.{of_none, last, init_set, init_below, greater_last, same_last, any_order}
+use Rattle.agg_laws.proofs.SetLaws.{of_none, last, init_set, init_below, greater_last, same_last, any_order}
 
 not_less : Less ≡ Greater → ⊥
 not_less e = cc

@@ -11,4 +11,3 @@ pub mod Averages
 pub mod States
 pub mod Rows
 pub mod Order
-pub mod Sets

@@ -6,3 +6,4 @@ pub mod SlotFrames
 mod PooledSteps
 pub mod NewKeys
 mod AbsorbSteps
+mod SetTableSteps

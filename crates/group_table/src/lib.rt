@@ -5,11 +5,13 @@ mod fault;
 mod groups_in;
 mod laws;
 mod query_pool;
+mod sets;
 mod table;
 
 pub use fault::TableFault;
 pub use groups_in::GroupsIn;
 pub use laws::{absorb_law, adds_law, groups_law};
 pub use query_pool::{kinds_in, pool_for};
+pub use sets::SetTable;
 pub use state_pool::SlotPool;
 pub use table::GroupTable;

@@ -1,4 +1,4 @@
-use Rattle.agg_laws.specs.laws.Sets as sets
+use Rattle.agg_laws.proofs.SetLaws as sets
 use Rattle.agg_laws.proofs.sets.sets_law.Goals as goal
 
 pub returns-clause-of_none : goal.returns-clause-of_none

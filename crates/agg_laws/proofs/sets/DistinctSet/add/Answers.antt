@@ -1,6 +1,6 @@
 use Rattle.std.proofs.Common.{[], ◌∷◌, ◌++◌, sym, ap, ◌∙◌, subst}
 use Rattle.agg_laws.specs.Sets.{IsSet}
-use Rattle.agg_laws.specs.laws.Sets.{one_set}
+use Rattle.agg_laws.proofs.SetLaws.{one_set}
 use Rattle.agg_laws.proofs.sets.DistinctSet.add.Goals as goal
 
 pub merge-requires-clause-from : goal.merge-requires-clause-from
