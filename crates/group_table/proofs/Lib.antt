@@ -7,3 +7,4 @@ mod PooledSteps
 pub mod NewKeys
 mod AbsorbSteps
 mod SetTableSteps
+mod SetsByKey

@@ -1,13 +1,16 @@
 -- Sets of values beside groups: of each group the distinct values of some columns.
 use Rattle.std.specs.Prelude.{◌≡◌, ℕ, ◌+◌, ◌-◌, ◌≤◌, nat_le, if◌then◌else◌, List, [], ◌∷◌, ◌++◌}
 use Rattle.std.specs.Prelude.{map, length, replicate, slice_set, slice_index_or, Option, Some}
-use Rattle.std.specs.Prelude.{None, option_and_then}
+use Rattle.std.specs.Prelude.{None, option_and_then, filter}
+use Rattle.std.specs.FinMap as finite
 use Rattle.std.specs.List.{AllByRecursion}
 use Rattle.std.specs.Option.{MatchOption}
 use Rattle.values.specs.declared.value.Value.{Value}
 use Rattle.values.specs.Order.{value_order}
 use Rattle.agg_laws.specs.Sets.{set_of, union, IsSet}
+use Rattle.agg_laws.specs.Merged.{join_some}
 use Rattle.table_schema.specs.Conditions.{cell}
+use Rattle.group_table.specs.Groups.{has_key, key_order}
 
 -- ---- of rows
 
@@ -24,6 +27,26 @@ abbrev pub unions : List (List Value) → List (List Value) → List (List Value
 unions [] others = []
 unions (one ∷ more) [] = []
 unions (one ∷ more) (other ∷ others) = union value_order one other ∷ unions more others
+
+-- the sets of some rows, if there are any
+abbrev pub some_sets : List ℕ → List (List Value) → Option (List (List Value))
+some_sets columns [] = None
+some_sets columns (row ∷ rows) = Some (sets_of columns (row ∷ rows))
+
+-- those of the rows that have a key
+abbrev pub sets_for : List ℕ → List ℕ → List (List Value) → List Value
+    → Option (List (List Value))
+sets_for groups columns rows key = some_sets columns (filter (has_key groups key) rows)
+
+-- sets by the keys of groups
+abbrev pub Sets : Type 0
+Sets = finite.FinMap key_order (List (List Value))
+
+-- any sets with those of more rows in them: at each key the members of both
+pub record AddsSets (groups columns : List ℕ) (rows : List (List Value)) (old new : Sets) : Type 0
+  where
+    pub each : (key : List Value) → finite.get new key
+        ≡ join_some unions (finite.get old key) (sets_for groups columns rows key)
 
 -- ---- kept by places
 

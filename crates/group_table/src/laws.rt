@@ -1,6 +1,6 @@
 //! Laws of groups. Each is the contract of a function that does nothing.
 
-ghost use Rattle.std.specs.Prelude.{◌≡◌, List, [], ◌∷◌, ◌++◌, Some, None, filter};
+ghost use Rattle.std.specs.Prelude.{◌≡◌, ℕ, List, [], ◌∷◌, ◌++◌, Some, None, filter};
 ghost use Rattle.std.specs.Prelude.{if◌then◌else◌, IsPermutation};
 ghost use Rattle.std.specs.FinMap as finite;
 ghost use Rattle.std.specs.List.{IsDistinct};
@@ -9,6 +9,7 @@ ghost use Rattle.values.specs.declared.value.Value.{Value};
 ghost use Rattle.group_table.specs.Groups.{Groups, groups_of, is_key, has_key, key_of, states_of};
 ghost use Rattle.group_table.specs.Groups.{Adds, Group, merged_in, with_entries};
 ghost use Rattle.group_table.specs.Kept.{key_eq};
+ghost use Rattle.group_table.specs.Sets.{AddsSets, Sets};
 ghost use Rattle.group_table.specs.Shape.{Shape};
 
 /// The groups of some rows have each key that a row has, with the aggregates of the rows that have
@@ -48,4 +49,18 @@ pub fn absorb_law()
     ensures { (shape : Shape) (done rows : List (List Value)) (groups : List Group)
         → IsDistinct key_eq (keys_of groups) → finite.from_entries groups ≡ groups_of shape rows
         → Adds shape rows (groups_of shape done) (with_entries (groups_of shape done) groups) }
+{}
+
+/// Sets with those of more rows in them are determined, whichever rows come first and in whatever
+/// lists.
+pub fn sets_added_law()
+    ensures one { (groups columns : List ℕ) (rows : List (List Value)) (old new other : Sets)
+        → AddsSets groups columns rows old new → AddsSets groups columns rows old other
+        → new ≡ other }
+    ensures joined { (groups columns : List ℕ) (xs ys : List (List Value)) (old mid new : Sets)
+        → AddsSets groups columns xs old mid → AddsSets groups columns ys mid new
+        → AddsSets groups columns (xs ++ ys) old new }
+    ensures permuted { (groups columns : List ℕ) (xs ys : List (List Value)) (old new : Sets)
+        → IsPermutation xs ys → AddsSets groups columns xs old new
+        → AddsSets groups columns ys old new }
 {}

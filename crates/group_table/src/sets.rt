@@ -1,8 +1,9 @@
 //! Sets of values beside the groups of a query.
 
-ghost use Rattle.std.specs.Prelude.{◌≡◌, ◌+◌, ◌*◌, ◌<◌, ◌^◌, [], length, Some, OnOk, OnErr};
+ghost use Rattle.std.specs.Prelude.{◌≡◌, ◌+◌, ◌*◌, ◌<◌, ◌^◌, List, [], length, Some, OnOk, OnErr};
 ghost use Rattle.std.specs.Prelude.{◌++◌, ◌≤◌, is_none, replicate, vec_capacity};
 ghost use Rattle.std.specs.List.{AllByRecursion};
+ghost use Rattle.values.specs.declared.value.Value.{Value};
 ghost use Rattle.values.specs.Order.{value_order};
 ghost use Rattle.agg_laws.specs.Sets.{IsSet};
 ghost use Rattle.group_table.specs.Sets.{IsSetTable, MergesSet, merged_at, set_at};
@@ -83,6 +84,19 @@ impl SetTable {
         }
         self.members = others + own;
         Ok(())
+    }
+
+    /// How many distinct values a column has in the group at a place.
+    pub fn distinct_at(&self, at: u32, which: u16) -> usize
+        requires table { IsSetTable self.now }
+        requires which { which < self.now.columns }
+        ensures { (sets : List (List Value)) → self.now.sets ≡ Some sets
+            → result ≡ length (set_at sets (at * self.now.columns + which)) }
+    {
+        len_at(
+            self.sets.as_slice(),
+            at as usize * self.columns + which as usize,
+        )
     }
 
     /// Whether the sets have more members than there may be.
