@@ -1,5 +1,5 @@
 -- Laws of sets: they go by the values alone, in any grouping and order.
-use Rattle.std.specs.Prelude.{◌≡◌, ◌&&◌, ◌||◌, ℕ, Bool, true, false, List, [], ◌∷◌, ◌++◌, map, length, Option, Some, None, is_some, IsPermutation, T}
+use Rattle.std.specs.Prelude.{◌≡◌, ◌&&◌, ◌||◌, ℕ, suc, ◌+◌, ◌≤◌, cond, Bool, true, false, List, [], ◌∷◌, ◌++◌, map, length, Option, Some, None, is_some, IsPermutation, T}
 use Rattle.std.proofs.Common.{refl, sym, ap, ◌∙◌, subst, arith}
 use Rattle.std.proofs.Math.Bool.{or_comm}
 use Rattle.std.specs.declared.cmp.Ordering.{Ordering}
@@ -9,7 +9,7 @@ use Rattle.std.specs.List.{list_any, AllByRecursion}
 use Rattle.std.specs.List.Sorted.{IsStrictlySortedBy}
 use Rattle.std.specs.Ordering.{eq_by_cmp, is_lt}
 use Rattle.std.specs.FinMap as finite
-use Rattle.std.specs.FinMap.{IsAntisymmetric, find, put, same_map, get-from_entries, contains_key-keys, len-empty, len-entries, get-entries, entries_sorted, entries-insert}
+use Rattle.std.specs.FinMap.{IsAntisymmetric, find, put, same_map, get-from_entries, contains_key-keys, len-empty, len-entries, get-entries, entries_sorted, entries-insert, len-insert}
 use Rattle.std.specs.FinMap.Entries.{by_order, is_some-find, same_entries, below_all, is_sorted}
 use Rattle.std.proofs.lemmas.List.Folds.{list_any-append}
 use Rattle.std.proofs.lemmas.List.Sorted.{list_any-IsPermutation}
@@ -99,6 +99,14 @@ put_by : {V : Type 0} (P : V → Type 0) (k : V) (e : V × Unit {0}) (es : List 
 put_by P k e es more Less own all later = (own, all)
 put_by P k e es more Equal own all later = all
 put_by P k e es more Greater own all later = (all.0, later)
+
+no_less : (b : Bool) (n : ℕ) → n ≤ cond b n (n + 1)
+no_less true n = omega arith
+no_less false n = omega arith
+
+length_keys : {V : Type 0} (es : List (V × Unit {0})) → length (map (λ e. e.0) es) ≡ length es
+length_keys [] = refl
+length_keys (e ∷ es) = ap suc (length_keys es)
 
 -- whether a value is in the list
 abbrev pub has : {V : Type 0} → (V → V → Ordering) → V → List V → Bool
@@ -214,3 +222,24 @@ module _ {V : Type 0} {R : V → V → Ordering} where
           ∙ once (has R q xs) (has R q ys) (has R q (a ∷ []))
           ∙ ap (λ t. t || has R q (a ∷ [])) (sym (list_any-append (eq_by_cmp R q) xs ys)) ∙ sym (list_any-append (eq_by_cmp R q) (xs ++ ys) (a ∷ [])))
           ∙ last (xs ++ ys) a (all_joined (λ y. R y a ≡ Less) xs ys (init_below R xs a own) (init_below R ys a other))
+
+      -- ---- how many members
+
+      pub set_grows : (xs ys : List V) → length (set_of R ys) ≤ length (set_of R (xs ++ ys))
+      set_grows [] ys = omega arith
+      set_grows (x ∷ xs) ys =
+          let m = finite.from_entries {R = R} (entries_of (xs ++ ys)) in
+          omega (
+            arith,
+            set_grows xs ys,
+            no_less (finite.contains_key m x) (finite.len m),
+            len-insert o m x tt,
+            len-entries m,
+            len-entries (finite.insert m x tt),
+            length_keys (finite.entries m),
+            length_keys (finite.entries (finite.insert m x tt)),
+          )
+
+      -- a set has no more members than one with others besides
+      pub union_grows : (a b : List V) → IsSet R a → length a ≤ length (union R a b)
+      union_grows a b own = omega (arith, ap length (ascending a own), set_grows b a, ap length (any_order a b))

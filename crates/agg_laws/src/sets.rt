@@ -150,5 +150,6 @@ pub fn sets_law<V: Ord>()
     ensures permuted { (xs ys : List V) → IsPermutation xs ys
         → set_of V.cmp ys ≡ set_of V.cmp xs }
     ensures ascends { (xs : List V) → IsSet V.cmp (set_of V.cmp xs) }
+    ensures grows { (a b : List V) → IsSet V.cmp a → length a ≤ length (union V.cmp a b) }
     ensures ascending { (xs : List V) → IsSet V.cmp xs → set_of V.cmp xs ≡ xs }
 {}

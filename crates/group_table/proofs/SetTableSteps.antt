@@ -12,7 +12,7 @@ use Rattle.values.specs.Order.{value_order, value_eq}
 use Rattle.values.specs.Order.Laws.{value_order-total, value_eq-ties}
 use Rattle.values.proofs.Bounds.{same_value}
 use Rattle.agg_laws.specs.Sets.{set_of, union, IsSet}
-use Rattle.agg_laws.proofs.SetLaws.{ascending, set_ascends}
+use Rattle.agg_laws.proofs.SetLaws.{ascending, set_ascends, union_grows}
 use Rattle.group_table.specs.Sets.{KeptSets, MergesSet, IsSetTable, AreKept, most_members, members_of, set_at, reaching, merged_at, limited}
 
 pub value_exact : IsAntisymmetric value_order
@@ -90,6 +90,22 @@ members_merged sets place set =
       sum_end sets (place + 1 - length sets),
       ap length (at_end sets (place + 1 - length sets) place []),
       ap length (get_or-set_same (reaching place sets) place joined [] (long sets place)),
+    )
+
+all_at : {A : Type 0} (P : A → Type 0) (xs : List A) (n : ℕ) (d : A) → AllByRecursion P xs → P d → P (slice_index_or xs n d)
+all_at P [] n d all own = own
+all_at P (x ∷ xs) zero d all own = all.0
+all_at P (x ∷ xs) (suc n) d all own = all_at P xs n d all.1 own
+
+-- members never become fewer
+pub no_fewer : (sets : List (List Value)) (place : ℕ) (set : List Value) → AllByRecursion (IsSet value_order) sets → members_of sets ≤ members_of (merged_at sets place set)
+no_fewer sets place set all =
+    let own = set_at sets place in
+    omega (
+      arith,
+      members_merged sets place set,
+      ap length (get_or-set_same (reaching place sets) place (union value_order own set) [] (long sets place)),
+      union_grows value_order-total value_exact own set (all_at (IsSet value_order) sets place [] all no_members),
     )
 
 -- ---- what is kept

@@ -1,15 +1,17 @@
 //! Laws of groups. Each is the contract of a function that does nothing.
 
-ghost use Rattle.std.specs.Prelude.{◌≡◌, ℕ, List, [], ◌∷◌, ◌++◌, Some, None, filter};
+ghost use Rattle.std.specs.Prelude.{◌≡◌, ◌≤◌, ℕ, List, [], ◌∷◌, ◌++◌, Some, None, filter};
 ghost use Rattle.std.specs.Prelude.{if◌then◌else◌, IsPermutation};
 ghost use Rattle.std.specs.FinMap as finite;
-ghost use Rattle.std.specs.List.{IsDistinct};
+ghost use Rattle.std.specs.List.{AllByRecursion, IsDistinct};
 ghost use Rattle.std.specs.Map.{keys_of};
 ghost use Rattle.values.specs.declared.value.Value.{Value};
 ghost use Rattle.group_table.specs.Groups.{Groups, groups_of, is_key, has_key, key_of, states_of};
 ghost use Rattle.group_table.specs.Groups.{Adds, Group, merged_in, with_entries};
 ghost use Rattle.group_table.specs.Kept.{key_eq};
-ghost use Rattle.group_table.specs.Sets.{AddsSets, Sets};
+ghost use Rattle.group_table.specs.Sets.{AddsSets, Sets, members_of, merged_at};
+ghost use Rattle.agg_laws.specs.Sets.{IsSet};
+ghost use Rattle.values.specs.Order.{value_order};
 ghost use Rattle.group_table.specs.Shape.{Shape};
 
 /// The groups of some rows have each key that a row has, with the aggregates of the rows that have
@@ -63,4 +65,12 @@ pub fn sets_added_law()
     ensures permuted { (groups columns : List ℕ) (xs ys : List (List Value)) (old new : Sets)
         → IsPermutation xs ys → AddsSets groups columns xs old new
         → AddsSets groups columns ys old new }
+{}
+
+/// Sets have no fewer members once more are merged in. So sets that have too many have too many
+/// whatever comes after.
+pub fn members_law()
+    ensures { (sets : List (List Value)) (place : ℕ) (set : List Value)
+        → AllByRecursion (IsSet value_order) sets
+        → members_of sets ≤ members_of (merged_at sets place set) }
 {}

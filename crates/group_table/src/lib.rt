@@ -10,7 +10,7 @@ mod table;
 
 pub use fault::TableFault;
 pub use groups_in::GroupsIn;
-pub use laws::{absorb_law, adds_law, groups_law, sets_added_law};
+pub use laws::{absorb_law, adds_law, groups_law, members_law, sets_added_law};
 pub use query_pool::{kinds_in, pool_for};
 pub use sets::SetTable;
 pub use state_pool::SlotPool;

@@ -24,3 +24,6 @@ returns-clause-ascends g c = sets.set_ascends g.met.V.Ord.total c.requires.exact
 
 pub returns-clause-ascending : goal.returns-clause-ascending
 returns-clause-ascending g c = sets.ascending g.met.V.Ord.total c.requires.exact
+
+pub returns-clause-grows : goal.returns-clause-grows
+returns-clause-grows g c = sets.union_grows g.met.V.Ord.total c.requires.exact
