@@ -12,7 +12,7 @@ use Rattle.values.specs.Order.{value_order, value_eq}
 use Rattle.values.specs.Order.Laws.{value_order-total, value_eq-ties}
 use Rattle.values.proofs.Bounds.{same_value}
 use Rattle.agg_laws.specs.Sets.{set_of, union, IsSet}
-use Rattle.agg_laws.proofs.SetLaws.{ascending, set_ascends, union_grows}
+use Rattle.agg_laws.proofs.SetLaws.{one_set, ascending, set_ascends, union_grows}
 use Rattle.group_table.specs.Sets.{KeptSets, MergesSet, IsSetTable, AreKept, most_members, members_of, set_at, reaching, merged_at, limited}
 
 pub value_exact : IsAntisymmetric value_order
@@ -46,9 +46,12 @@ all_end P [] zero d all own = tt
 all_end P [] (suc k) d all own = (own, all_end P [] k d tt own)
 all_end P (x ∷ xs) k d all own = (all.0, all_end P xs k d all.1 own)
 
-no_members : IsStrictlySortedBy value_order []
+pub no_members : IsStrictlySortedBy value_order []
 unfolding IsStrictlySortedBy
 no_members = tt
+
+pub of_one : (value : Value) → union value_order [] (value ∷ []) ≡ value ∷ []
+of_one value = ascending value_order-total value_exact (value ∷ []) (one_set value_order value)
 
 long : (sets : List (List Value)) (place : ℕ) → place < length (reaching place sets)
 long sets place = omega (arith, length-append sets (replicate (place + 1 - length sets) []), length-replicate {A = List Value} (place + 1 - length sets) [])

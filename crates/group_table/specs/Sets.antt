@@ -1,9 +1,10 @@
 -- Sets of values beside groups: of each group the distinct values of some columns.
-use Rattle.std.specs.Prelude.{◌≡◌, ℕ, ◌+◌, ◌-◌, ◌≤◌, nat_le, if◌then◌else◌, List, [], ◌∷◌, ◌++◌}
+use Rattle.std.specs.Prelude.{◌≡◌, ℕ, ◌+◌, ◌-◌, ◌*◌, ◌≤◌, nat_le, if◌then◌else◌, List, [], ◌∷◌, ◌++◌}
 use Rattle.std.specs.Prelude.{map, length, replicate, slice_set, slice_index_or, Option, Some}
 use Rattle.std.specs.Prelude.{None, option_and_then, filter}
 use Rattle.std.specs.FinMap as finite
-use Rattle.std.specs.List.{AllByRecursion}
+use Rattle.std.specs.List.{AllByRecursion, position}
+use Rattle.std.specs.Map.{keys_of}
 use Rattle.std.specs.Option.{MatchOption}
 use Rattle.values.specs.declared.value.Value.{Value}
 use Rattle.values.specs.Order.{value_order}
@@ -11,6 +12,8 @@ use Rattle.agg_laws.specs.Sets.{set_of, union, IsSet}
 use Rattle.agg_laws.specs.Merged.{join_some}
 use Rattle.table_schema.specs.Conditions.{cell}
 use Rattle.group_table.specs.Groups.{has_key, key_order}
+use Rattle.group_table.specs.Kept.{key_eq}
+use Rattle.group_table.specs.Pooled.{PooledTable}
 
 -- ---- of rows
 
@@ -94,3 +97,10 @@ AreKept sets = AllByRecursion (IsSet value_order) sets × (members_of sets ≤ m
 -- the same of what is kept
 abbrev pub IsSetTable : KeptSets → Type 0
 IsSetTable table = (table.columns ≤ 16) × MatchOption table.sets (Unit {0}) AreKept
+
+-- a value is added to those of a column in the group of a key
+pub record AddsValue (table : PooledTable) (key : List Value) (which : ℕ) (value : Value)
+    (old new : KeptSets) : Type 0 where
+  pub at : ℕ
+  pub own : position (key_eq key) (keys_of table.slots) ≡ Some at
+  pub merges : MergesSet (at * old.columns + which) (value ∷ []) old new

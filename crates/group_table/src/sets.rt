@@ -1,17 +1,20 @@
 //! Sets of values beside the groups of a query.
 
-ghost use Rattle.std.specs.Prelude.{◌≡◌, ◌+◌, ◌*◌, ◌<◌, ◌^◌, List, [], length, Some, OnOk, OnErr};
+ghost use Rattle.std.specs.Prelude.{◌≡◌, ◌+◌, ◌*◌, ◌<◌, ◌^◌, List, [], IsSome, length, Some, OnOk, OnErr};
 ghost use Rattle.std.specs.Prelude.{◌++◌, ◌≤◌, is_none, replicate, vec_capacity};
-ghost use Rattle.std.specs.List.{AllByRecursion};
+ghost use Rattle.std.specs.List.{AllByRecursion, position};
 ghost use Rattle.values.specs.declared.value.Value.{Value};
 ghost use Rattle.values.specs.Order.{value_order};
 ghost use Rattle.agg_laws.specs.Sets.{IsSet};
-ghost use Rattle.group_table.specs.Sets.{IsSetTable, MergesSet, merged_at, set_at};
+ghost use Rattle.group_table.specs.Sets.{AddsValue, IsSetTable, MergesSet, merged_at, set_at};
+ghost use Rattle.group_table.specs.Kept.{key_eq};
+ghost use Rattle.std.specs.Map.{keys_of};
 
+use crate::table::GroupTable;
 use agg_laws::DistinctSet;
 use std::alloc::Global;
 use std::marker::Model;
-use values::{NoMemory, Value};
+use values::{NoMemory, Row, Value};
 
 /// So many members all sets of a query may have together.
 const MOST_MEMBERS: usize = 1_000_000;
@@ -84,6 +87,30 @@ impl SetTable {
         }
         self.members = others + own;
         Ok(())
+    }
+
+    /// Adds a value to those of a column in the group of a key, which is there.
+    pub fn add_distinct(
+        &mut self,
+        alloc: Global,
+        table: &GroupTable,
+        key: &Row,
+        which: u16,
+        value: &Value,
+    ) -> Result<(), NoMemory>
+        requires table { IsSetTable self.old }
+        requires which { which < self.old.columns }
+        requires key { IsSome (position (key_eq key.now) (keys_of table.now.slots)) }
+        ensures ok { OnOk result (AddsValue table.now key.now which value.now self.old self.new) }
+        ensures table { IsSetTable self.new }
+        ensures err { OnErr result (self.new ≡ self.old) }
+    {
+        let Some(at) = table.place_of_key(key) else {
+            unreachable!();
+        };
+        let mut set = DistinctSet::new(alloc);
+        set.add(alloc, value.copy(alloc)?)?;
+        self.merge_set(alloc, at, which, set)
     }
 
     /// How many distinct values a column has in the group at a place.

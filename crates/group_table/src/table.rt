@@ -3,6 +3,7 @@
 ghost use Rattle.std.specs.Prelude.{◌≡◌, ◌+◌, ◌<◌, ◌≤◌, ◌↔◌, ◌∷◌, ◌++◌, [], List, length, map};
 ghost use Rattle.std.specs.Prelude.{slice_get, false};
 ghost use Rattle.std.specs.Prelude.{Some, None, Err, OnOk, OnErr, IfOk};
+ghost use Rattle.std.specs.List.{position};
 ghost use Rattle.std.specs.Map.{lookup, keys_of};
 ghost use Rattle.indexmap.specs.IndexMap.{spare};
 ghost use Rattle.std.specs.FinMap as finite;
@@ -129,6 +130,16 @@ impl GroupTable {
         }
         self.start(alloc, pool, key)?;
         Ok(self.slots.len() - 1)
+    }
+
+    /// The place of the group of a key, if it is there.
+    pub fn place_of_key(&self, key: &Row) -> Option<u32>
+        ensures { result ≡ position (key_eq key.now) (keys_of self.now.slots) }
+    {
+        match self.slots.get_index_of(key) {
+            Some(at) => Some(at as u32),
+            None => None,
+        }
     }
 
     /// The slot of the group at a place.
