@@ -1,0 +1,16 @@
+mod GatherLemmas
+mod PoolLemmas
+mod AnswerLemmas
+mod StandLemmas
+mod StoredLemmas
+mod PlaceLemmas
+mod MovedLemmas
+mod StepLemmas
+mod OpenLemmas
+mod OpenedLemmas
+mod OwnerLemmas
+mod NewLemmas
+mod FileLemmas
+mod CloseLemmas
+mod GoneLemmas
+mod ClosedLemmas

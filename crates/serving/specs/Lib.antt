@@ -1,0 +1,7 @@
+pub mod Faults
+pub mod Kept
+pub mod Gathered
+pub mod Answered
+pub mod Opened
+pub mod Closed
+pub mod Calls
