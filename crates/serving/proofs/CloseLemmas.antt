@@ -32,19 +32,19 @@ or_true true = refl
 or_true false = refl
 
 -- a kept list is one of some
-abbrev IsKeptOf : KeptList → List KeptList → Type 0
+abbrev pub IsKeptOf : KeptList → List KeptList → Type 0
 IsKeptOf k [] = ⊥
 IsKeptOf k (x ∷ kept) = (x ≡ k) ⊎ IsKeptOf k kept
 
-abbrev file_name : KeptList → List ℕ
+abbrev pub file_name : KeptList → List ℕ
 file_name k = kept_name k.listed.name k.line
 
-kept_all : (P : KeptList → Type 0) (k : KeptList) (kept : List KeptList) → AllByRecursion P kept → IsKeptOf k kept → P k
+pub kept_all : (P : KeptList → Type 0) (k : KeptList) (kept : List KeptList) → AllByRecursion P kept → IsKeptOf k kept → P k
 kept_all P k [] all one = absurd one
 kept_all P k (x ∷ kept) all (inl same) = subst P same all.0
 kept_all P k (x ∷ kept) all (inr later) = kept_all P k kept all.1 later
 
-kept_among : (k : KeptList) (kept : List KeptList) → IsKeptOf k kept → IsAmong k.listed kept
+pub kept_among : (k : KeptList) (kept : List KeptList) → IsKeptOf k kept → IsAmong k.listed kept
 kept_among k [] one = one
 kept_among k (x ∷ kept) (inl same) = inl (ap (λ (x : KeptList). x.listed) same)
 kept_among k (x ∷ kept) (inr later) = inr (kept_among k kept later)
@@ -62,7 +62,7 @@ any_passed p (k ∷ kept) any = by (p k) refl any (any_passed p kept)
     by true is any more = record { k = k; one = inl refl; passes = is }
     by false is any more = let f = more any in record { k = f.k; one = inr f.one; passes = f.passes }
 
-passed_any : (p : KeptList → Bool) (k : KeptList) (kept : List KeptList) → IsKeptOf k kept → p k ≡ true → list_any p kept ≡ true
+pub passed_any : (p : KeptList → Bool) (k : KeptList) (kept : List KeptList) → IsKeptOf k kept → p k ≡ true → list_any p kept ≡ true
 passed_any p k [] one is = absurd one
 passed_any p k (x ∷ kept) (inl same) is = ap (λ b. b || list_any p kept) (ap p same ∙ is)
 passed_any p k (x ∷ kept) (inr later) is = ap (λ b. p x || b) (passed_any p k kept later is) ∙ or_true (p x)
@@ -92,7 +92,7 @@ none_of x l (y ∷ kept) all (inl same) e = false≢true (sym all.0 ∙ ap (same
 none_of x l (y ∷ kept) all (inr later) e = none_of x l kept all.1 later e
 
 -- kept lists of one name are one
-same_of : (k l : KeptList) (kept : List KeptList) → IsDistinct same_name (map file_name kept) → IsKeptOf k kept → IsKeptOf l kept → file_name k ≡ file_name l → k ≡ l
+pub same_of : (k l : KeptList) (kept : List KeptList) → IsDistinct same_name (map file_name kept) → IsKeptOf k kept → IsKeptOf l kept → file_name k ≡ file_name l → k ≡ l
 unfolding IsDistinct
 same_of k l [] once p q e = absurd p
 same_of k l (x ∷ kept) once (inl p) (inl q) e = sym p ∙ q
@@ -119,13 +119,13 @@ of_number k (x ∷ kept) once one = by (nat_eq x.listed.version.number k.listed.
     by false e (inl same) more = absurd (false≢true (sym e ∙ ap (λ (x : KeptList). nat_eq x.listed.version.number k.listed.version.number) same ∙ same_number k.listed.version.number))
     by false e (inr later) more = more later
 
-record IsFileOf (f : List ℕ) (number : ℕ) (kept : List KeptList) : Type 0 where
-  k : KeptList
-  one : IsKeptOf k kept
-  number_is : k.listed.version.number ≡ number
-  named : file_name k ≡ f
+pub record IsFileOf (f : List ℕ) (number : ℕ) (kept : List KeptList) : Type 0 where
+  pub k : KeptList
+  pub one : IsKeptOf k kept
+  pub number_is : k.listed.version.number ≡ number
+  pub named : file_name k ≡ f
 
-file_of_number : (f : List ℕ) (number : ℕ) (kept : List KeptList) → first_of (kept_files number kept) ≡ Some f → IsFileOf f number kept
+pub file_of_number : (f : List ℕ) (number : ℕ) (kept : List KeptList) → first_of (kept_files number kept) ≡ Some f → IsFileOf f number kept
 file_of_number f number [] is = absurd cc
 file_of_number f number (x ∷ kept) is = by (nat_eq x.listed.version.number number) refl is (file_of_number f number kept)
   where
@@ -152,12 +152,12 @@ kept_held number p (x ∷ kept) all = by (p x) refl (nat_eq x.listed.version.num
 
 -- ---- lists and their files, among others
 
-record IsNumberOf (number : ℕ) (lists : List Listed) : Type 0 where
-  listed : Listed
-  one : IsOneOf listed lists
-  number_is : listed.version.number ≡ number
+pub record IsNumberOf (number : ℕ) (lists : List Listed) : Type 0 where
+  pub listed : Listed
+  pub one : IsOneOf listed lists
+  pub number_is : listed.version.number ≡ number
 
-number_of : (number : ℕ) (lists : List Listed) → has_number number lists ≡ true → IsNumberOf number lists
+pub number_of : (number : ℕ) (lists : List Listed) → has_number number lists ≡ true → IsNumberOf number lists
 number_of number [] has = absurd (false≢true has)
 number_of number (x ∷ lists) has = by (nat_eq x.version.number number) refl has (number_of number lists)
   where
@@ -165,30 +165,30 @@ number_of number (x ∷ lists) has = by (nat_eq x.version.number number) refl ha
     by true e has more = record { listed = x; one = inl refl; number_is = eqb-true x.version.number number e }
     by false e has more = let f = more has in record { listed = f.listed; one = inr f.one; number_is = f.number_is }
 
-all_in : (xs : List Listed) → AllByRecursion (λ x. IsOneOf x xs) xs
+pub all_in : (xs : List Listed) → AllByRecursion (λ x. IsOneOf x xs) xs
 all_in [] = tt
 all_in (x ∷ xs) = (inl refl, all_so (λ y. IsOneOf y xs) (λ y. IsOneOf y (x ∷ xs)) (λ y one. inr one) xs (all_in xs))
 
-one_number : (x : Listed) (xs : List Listed) → IsOneOf x xs → has_number x.version.number xs ≡ true
+pub one_number : (x : Listed) (xs : List Listed) → IsOneOf x xs → has_number x.version.number xs ≡ true
 one_number x [] one = absurd one
 one_number x (y ∷ xs) (inl same) = ap (λ b. b || has_number x.version.number xs) (ap (λ (l : Listed). nat_eq l.version.number x.version.number) same ∙ same_number x.version.number)
 one_number x (y ∷ xs) (inr later) = ap (λ b. nat_eq y.version.number x.version.number || b) (one_number x xs later) ∙ or_true (nat_eq y.version.number x.version.number)
 
-has_mapped : (m : Machine) (f : List ℕ) (x : Listed) (xs : List Listed) → IsOneOf x xs → stands_as m x ≡ Some f → has_file f (map (stands_as m) xs) ≡ true
+pub has_mapped : (m : Machine) (f : List ℕ) (x : Listed) (xs : List Listed) → IsOneOf x xs → stands_as m x ≡ Some f → has_file f (map (stands_as m) xs) ≡ true
 has_mapped m f x [] one is = absurd one
 has_mapped m f x (y ∷ xs) (inl same) is = ap (λ b. b || has_file f (map (stands_as m) xs)) (ap (is_file f) (ap (stands_as m) same ∙ is) ∙ itself f)
 has_mapped m f x (y ∷ xs) (inr later) is = ap (λ b. is_file f (stands_as m y) || b) (has_mapped m f x xs later is) ∙ or_true (is_file f (stands_as m y))
 
-record IsListAs (m : Machine) (f : List ℕ) (xs : List Listed) : Type 0 where
-  x : Listed
-  one : IsOneOf x xs
-  is : stands_as m x ≡ Some f
+pub record IsListAs (m : Machine) (f : List ℕ) (xs : List Listed) : Type 0 where
+  pub x : Listed
+  pub one : IsOneOf x xs
+  pub is : stands_as m x ≡ Some f
 
-file_is : (f : List ℕ) (o : Option (List ℕ)) → is_file f o ≡ true → o ≡ Some f
+pub file_is : (f : List ℕ) (o : Option (List ℕ)) → is_file f o ≡ true → o ≡ Some f
 file_is f None is = absurd (false≢true is)
 file_is f (Some g) is = ap Some (sym (tied f g is))
 
-mapped_has : (m : Machine) (f : List ℕ) (xs : List Listed) → has_file f (map (stands_as m) xs) ≡ true → IsListAs m f xs
+pub mapped_has : (m : Machine) (f : List ℕ) (xs : List Listed) → has_file f (map (stands_as m) xs) ≡ true → IsListAs m f xs
 mapped_has m f [] has = absurd (false≢true has)
 mapped_has m f (y ∷ xs) has = by (is_file f (stands_as m y)) refl has (mapped_has m f xs)
   where
@@ -200,7 +200,7 @@ map_same : (m n : Machine) (xs : List Listed) → AllByRecursion (λ x. stands_a
 map_same m n [] all = refl
 map_same m n (x ∷ xs) all = λ i. all.0 i ∷ map_same m n xs all.1 i
 
-differ : (q name : List ℕ) → q ≢ name → same_name q name ≡ false
+pub differ : (q name : List ℕ) → q ≢ name → same_name q name ≡ false
 differ q name ne = by (same_name q name) refl
   where
     by : (b : Bool) → same_name q name ≡ b → b ≡ false

@@ -61,7 +61,7 @@ pub record AreGoneOf (at : ℕ) (cursors : List Cursor) (files : List (Option (L
 abbrev pub HaveGone : ℕ → List Cursor → List (Option (List ℕ)) → Option Files → Option Files → Type 0
 HaveGone at cursors files old new = (names : List (List ℕ)) × AreGoneOf at cursors files names × (new ≡ without_files names old)
 
-any_joined : {X : Type 0} (p : X → Bool) (xs : List X) (x : X) → list_any p (xs ++ x ∷ []) ≡ (list_any p xs || p x)
+pub any_joined : {X : Type 0} (p : X → Bool) (xs : List X) (x : X) → list_any p (xs ++ x ∷ []) ≡ (list_any p xs || p x)
 any_joined p [] x = or_false (p x)
   where
     or_false : (b : Bool) → (b || false) ≡ b

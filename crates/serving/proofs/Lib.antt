@@ -14,3 +14,4 @@ mod FileLemmas
 mod CloseLemmas
 mod GoneLemmas
 mod ClosedLemmas
+mod LeavingLemmas

@@ -4,4 +4,5 @@ pub mod Gathered
 pub mod Answered
 pub mod Opened
 pub mod Closed
+pub mod Aside
 pub mod Calls

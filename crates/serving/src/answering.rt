@@ -14,7 +14,7 @@ ghost use Rattle.serving.specs.Gathered.{stored_in};
 ghost use Rattle.serving.specs.Kept.{IsCursorIn, IsOver, IsPool, KeepsAside, gatherer};
 
 use crate::cursor::Cursor;
-use crate::gathering::{MOST_GROUPS, gather};
+use crate::gathering::{MOST_CURSOR_GROUPS, gather};
 use group_table::{SlotPool, TableFault};
 use outside::{Name, NoMemory, Shelf};
 use query_executor::ExecutorFault;
@@ -76,7 +76,9 @@ fn fault_of(fault: TableFault) -> ExecutorFault
     ensures { result ≡ of_table fault }
 {
     match fault {
-        TableFault::TooManyGroups => ExecutorFault::Sql(SqlFault::TooManyGroups(MOST_GROUPS)),
+        TableFault::TooManyGroups => ExecutorFault::Sql(SqlFault::TooManyGroups(
+            MOST_CURSOR_GROUPS,
+        )),
         TableFault::NoMemory => ExecutorFault::Sql(SqlFault::NoMemory),
     }
 }

@@ -73,15 +73,15 @@ fn has_other(cursors: &[Cursor], at: usize, name: &Name) -> bool
     false
 }
 
-// Whether a name is one of some files'.
-fn holds_file(files: &[Option<Name>], name: &Name) -> bool
+/// Whether a name is one of some files'.
+pub(crate) fn holds_file(files: &[Option<Name>], name: &Name) -> bool
     ensures { result ≡ has_file name.now files.now }
 {
     files.iter().any(|file| is_file(file, name))
 }
 
-// Whether this is the name of a file.
-fn is_file(file: &Option<Name>, name: &Name) -> bool
+/// Whether this is the name of a file.
+pub(crate) fn is_file(file: &Option<Name>, name: &Name) -> bool
     ensures { result ≡ closed.is_file name.now file.now }
 {
     match file {

@@ -24,7 +24,7 @@ use std::mem::replace;
 use table_schema::{BoundQuery, Table};
 
 /// The most groups of a cursor.
-pub(crate) const MOST_GROUPS: u32 = 10_000;
+pub const MOST_CURSOR_GROUPS: u32 = 10_000;
 
 /// The owner of the groups of the segments that are being answered.
 pub(crate) const GATHERER: u16 = 16;
@@ -94,7 +94,7 @@ fn add_all<S: Shelf>(
         groups,
         pool: replace(pool, spare),
         rooms: IdRooms::new(alloc),
-        most: MOST_GROUPS,
+        most: MOST_CURSOR_GROUPS,
         wants_lines: false,
         lines: Vec::new(alloc),
     };

@@ -4,6 +4,7 @@
 #![tactic(auto)]
 
 mod answering;
+mod aside;
 mod closing;
 mod cursor;
 mod fault;
@@ -14,4 +15,6 @@ mod serving;
 
 pub use cursor::Cursor;
 pub use fault::ServeFault;
+pub use gathering::MOST_CURSOR_GROUPS;
+pub use places::MOST_CURSORS;
 pub use serving::Serving;

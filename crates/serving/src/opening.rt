@@ -7,7 +7,7 @@ ghost use Rattle.serving.specs.Kept.{IsEmptyPool, IsPool, KeepsAside};
 ghost use Rattle.serving.specs.Opened.{IsNewCursor};
 
 use crate::cursor::Cursor;
-use crate::gathering::MOST_GROUPS;
+use crate::gathering::MOST_CURSOR_GROUPS;
 use crate::places::MOST_CURSORS;
 use agg_laws::AggKind;
 use group_table::{GroupTable, SlotPool, kinds_in};
@@ -24,7 +24,7 @@ pub(crate) fn cursor_pool(alloc: Global) -> Result<SlotPool, NoMemory>
     ensures { IfOk result IsEmptyPool }
 {
     let kinds = Seq::from_vec(vec![in alloc; AggKind::Count; MOST_AGGS]?);
-    let quotas = Seq::from_vec(vec![in alloc; MOST_GROUPS; MOST_CURSORS + 1]?);
+    let quotas = Seq::from_vec(vec![in alloc; MOST_CURSOR_GROUPS; MOST_CURSORS + 1]?);
     SlotPool::with_slots(alloc, &kinds, &quotas)
 }
 

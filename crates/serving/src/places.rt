@@ -7,7 +7,7 @@ ghost use Rattle.serving.specs.Kept.{place_under};
 use crate::cursor::Cursor;
 
 /// The most cursors that are open at once.
-pub(crate) const MOST_CURSORS: usize = 16;
+pub const MOST_CURSORS: usize = 16;
 
 /// The place of the cursor of a name, if there is one.
 pub(crate) fn place_of(cursors: &[Cursor], name: &str) -> Option<usize>

@@ -1,17 +1,27 @@
 //! Cursors that are open, and the pool that their groups are in.
-ghost use Rattle.std.specs.Prelude.{◌≡◌, [], IfOk, IsErrOf, is_some};
-ghost use Rattle.std.specs.List.{AllByRecursion};
+ghost use Rattle.std.specs.Prelude.{◌≡◌, ◌+◌, ℕ, [], IfOk, IsErrOf, None, OnOk, Some, is_some, length, slice_get};
+ghost use Rattle.std.specs.List.{All, AllByRecursion};
+ghost use Rattle.outside.specs.Files.{Lacks};
 ghost use Rattle.outside.specs.Seen.{OnlyReads, seen};
-ghost use Rattle.table_schema.specs.ValidTable.{IsValidTable};
+ghost use Rattle.values.specs.Columns.{rows_of};
+ghost use Rattle.table_schema.specs.ValidTable.{AreRows, IsValidTable};
 ghost use Rattle.table_schema.specs.declared.table.Table.{Table as ATable};
 ghost use Rattle.table_schema.specs.ValidQuery.{IsValidQuery};
-ghost use Rattle.table_store.specs.Calls.{ReadsNoByte};
-ghost use Rattle.cursor_serve.specs.Machine.{closed, fetched, opened, stepped};
-ghost use Rattle.serving.specs.Calls.{Serves};
+ghost use Rattle.segment_build.specs.Growing.{TreesFit};
+ghost use Rattle.segment_file.specs.Names.{IsSegmentName, file_of};
+ghost use Rattle.segment_file.specs.Ordered.{ordered};
+ghost use Rattle.table_store.specs.Calls.{CopiesFile, OnlyRemoves, ReadsNoByte};
+ghost use Rattle.table_store.specs.Images.{IsUnicode};
+ghost use Rattle.table_store.specs.Kept.{kept_name};
+ghost use Rattle.cursor_serve.specs.Machine.{closed, dropped, fetched, opened, replaced, stepped};
+ghost use Rattle.serving.specs.Answered.{next_stored};
+ghost use Rattle.serving.specs.Calls.{HasNoPlaceFor, LosesKept, ReadsOf, SameButOf, Serves};
 ghost use Rattle.serving.specs.Kept.{AreCursors, IsOver, cursors_in, place_under};
+ghost use Rattle.serving.specs.declared.cursor.Cursor.{Cursor as ACursor};
 
 use crate::ServeFault;
 use crate::answering::answer_to;
+use crate::aside::{let_go, put_files, set_aside};
 use crate::closing::release;
 use crate::cursor::Cursor;
 use crate::opening::{cursor_pool, new_cursor};
@@ -21,7 +31,11 @@ use outside::{Bytes, Depot, NoMemory, Shelf};
 use sql_reply::answer;
 use std::alloc::Global;
 use table_schema::{BoundQuery, Table};
-use table_store::{kept_idle_law, segment_names};
+use table_store::{
+    StoreFault, drop_segment, drop_stands_law, kept_idle_law, kept_stay_law, replace_segment,
+    replace_stands_law, segment_names,
+};
+use values::Columns;
 
 /// Cursors that are open, and the pool that their groups are in.
 #[derive(Drop)]
@@ -46,6 +60,14 @@ impl Serving {
         ensures { result ≡ is_some (place_under cursor.now self.now.cursors.items) }
     {
         place_of(self.cursors.as_slice(), cursor).is_some()
+    }
+
+    /// How many cursors are open.
+    pub fn cursors(&self) -> u32
+        requires { AreCursors self.now.pool self.now.cursors.items }
+        ensures { result ≡ length self.now.cursors.items }
+    {
+        self.cursors.len() as u32
     }
 
     /// Opens a cursor over the segments that are live: how many there are.
@@ -108,6 +130,13 @@ impl Serving {
         ensures over { AllByRecursion (IsOver table.now) self.new.cursors.items }
         ensures only_reads { OnlyReads (IsErrOf result ServeFault.ReadFault)
             (seen S.Shelf shelf.old) (seen S.Shelf shelf.new) }
+        ensures unread { place_under cursor.now self.old.cursors.items ≡ None →
+            S.log shelf.new ≡ S.log shelf.old }
+        ensures reads { (at : ℕ) (own : ACursor)
+            → place_under cursor.now self.old.cursors.items ≡ Some at
+            → slice_get self.old.cursors.items at ≡ Some own
+            → ReadsOf own.query table.now (next_stored own (own.answered + 1))
+            (seen S.Shelf shelf.old) (seen S.Shelf shelf.new) result }
     {
         let Some(at) = place_of(self.cursors.as_slice(), cursor) else {
             return Err(ServeFault::NoCursor);
@@ -143,6 +172,13 @@ impl Serving {
         ensures over { AllByRecursion (IsOver table.now) self.new.cursors.items }
         ensures only_reads { OnlyReads (IsErrOf result ServeFault.ReadFault)
             (seen S.Shelf shelf.old) (seen S.Shelf shelf.new) }
+        ensures unread { place_under cursor.now self.old.cursors.items ≡ None →
+            S.log shelf.new ≡ S.log shelf.old }
+        ensures reads { (at : ℕ) (own : ACursor)
+            → place_under cursor.now self.old.cursors.items ≡ Some at
+            → slice_get self.old.cursors.items at ≡ Some own
+            → ReadsOf own.query table.now (next_stored own (length own.segments))
+            (seen S.Shelf shelf.old) (seen S.Shelf shelf.new) result }
     {
         let Some(at) = place_of(self.cursors.as_slice(), cursor) else {
             return Err(ServeFault::NoCursor);
@@ -171,6 +207,9 @@ impl Serving {
         ensures cursors { AreCursors self.new.pool self.new.cursors.items }
         ensures over { (table : ATable) → AllByRecursion (IsOver table) self.old.cursors.items
             → AllByRecursion (IsOver table) self.new.cursors.items }
+        ensures loses { LosesKept (D.held depot.old) (D.held depot.new) }
+        ensures only_removes { OnlyRemoves ⊥ (IsErrOf result ServeFault.WriteFault)
+            (seen D.Shelf depot.old) (seen D.Shelf depot.new) }
     {
         kept_idle_law();
         let Some(at) = place_of(self.cursors.as_slice(), cursor) else {
@@ -182,6 +221,101 @@ impl Serving {
         }
         let Cursor { groups, .. } = self.cursors.remove(at);
         groups.close(&mut self.pool);
+        Ok(())
+    }
+
+    /// Drops a segment at a line, under which no file is kept so far. Its file is kept where a cursor has still to answer it; the change
+    /// of the live segments is the last call on the depot, and takes no memory after it.
+    pub fn drop_live<D: Depot>(
+        &mut self,
+        alloc: Global,
+        depot: &mut D,
+        name: &str,
+        line: u32,
+    ) -> Result<(), ServeFault>
+        requires cursors { AreCursors self.old.pool self.old.cursors.items }
+        ensures serves { Lacks (D.held depot.old) (kept_name name.now line)
+            → (table : ATable) → Serves (dropped line name.now) table
+            (cursors_in self.old.pool self.old.cursors.items)
+            (cursors_in self.new.pool self.new.cursors.items)
+            (D.held depot.old) (D.held depot.new) result }
+        ensures cursors { AreCursors self.new.pool self.new.cursors.items }
+        ensures over { (table : ATable) → AllByRecursion (IsOver table) self.old.cursors.items
+            → AllByRecursion (IsOver table) self.new.cursors.items }
+        ensures others { SameButOf name.now line (D.held depot.old) (D.held depot.new) }
+        ensures copies { CopiesFile (file_of name.now) (IsErrOf result ServeFault.ReadFault)
+            (IsErrOf result ServeFault.WriteFault)
+            (seen D.Shelf depot.old) (seen D.Shelf depot.new) }
+    {
+        drop_stands_law();
+        kept_idle_law();
+        kept_stay_law();
+        let made = match set_aside(alloc, depot, self.cursors.as_slice(), name, line) {
+            Ok(made) => made,
+            Err(fault) => return Err(ServeFault::from(fault)),
+        };
+        match drop_segment(alloc, depot, name) {
+            Ok(()) => {}
+            Err(fault) => return Err(ServeFault::from(fault)),
+        }
+        put_files(&mut self.cursors, made.files);
+        Ok(())
+    }
+
+    /// Puts rows in the place of those of a segment at a line, under which no file is kept so far. The file of these is kept where a
+    /// cursor has still to answer them; the change of the live segments is the last call on the
+    /// depot, and takes no memory after it.
+    pub fn replace_live<D: Depot>(
+        &mut self,
+        alloc: Global,
+        depot: &mut D,
+        table: &Table,
+        name: &str,
+        columns: Columns,
+        line: u32,
+    ) -> Result<(), ServeFault>
+        requires valid { IsValidTable table.now }
+        requires cursors { AreCursors self.old.pool self.old.cursors.items }
+        requires name { IsSegmentName name.now }
+        requires width { length columns.columns ≡ length table.now.schema.fields }
+        requires rows { AreRows table.now.schema.fields (rows_of columns) }
+        ensures serves { Lacks (D.held depot.old) (kept_name name.now line)
+            → All (λ row. All IsUnicode row) (rows_of columns)
+            → ¬ IsErrOf result ServeFault.TooLarge →
+            Serves (replaced line name.now (ordered table.now.settings.sorted (rows_of columns)))
+            table.now (cursors_in self.old.pool self.old.cursors.items)
+            (cursors_in self.new.pool self.new.cursors.items)
+            (D.held depot.old) (D.held depot.new) result }
+        ensures too_large { Lacks (D.held depot.old) (kept_name name.now line)
+            → IsErrOf result ServeFault.TooLarge → HasNoPlaceFor (rows_of columns) name.now table.now
+            (cursors_in self.old.pool self.old.cursors.items)
+            (cursors_in self.new.pool self.new.cursors.items)
+            (D.held depot.old) (D.held depot.new) }
+        ensures fits { OnOk result (TreesFit table.now (rows_of columns)) }
+        ensures cursors { AreCursors self.new.pool self.new.cursors.items }
+        ensures over { (other : ATable) → AllByRecursion (IsOver other) self.old.cursors.items
+            → AllByRecursion (IsOver other) self.new.cursors.items }
+        ensures others { SameButOf name.now line (D.held depot.old) (D.held depot.new) }
+        ensures copies { CopiesFile (file_of name.now) (IsErrOf result ServeFault.ReadFault)
+            (IsErrOf result ServeFault.WriteFault)
+            (seen D.Shelf depot.old) (seen D.Shelf depot.new) }
+    {
+        replace_stands_law();
+        kept_idle_law();
+        kept_stay_law();
+        let made = match set_aside(alloc, depot, self.cursors.as_slice(), name, line) {
+            Ok(made) => made,
+            Err(fault) => return Err(ServeFault::from(fault)),
+        };
+        match replace_segment(alloc, depot, table, name, columns) {
+            Ok(()) => {}
+            Err(StoreFault::TooLarge) => match let_go(alloc, depot, &made.kept) {
+                Ok(()) => return Err(ServeFault::TooLarge),
+                Err(fault) => return Err(ServeFault::from(fault)),
+            },
+            Err(fault) => return Err(ServeFault::from(fault)),
+        }
+        put_files(&mut self.cursors, made.files);
         Ok(())
     }
 }
