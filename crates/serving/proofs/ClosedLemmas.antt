@@ -75,7 +75,7 @@ apart_at (x ∷ ds) (suc i) zero d c once got there ne =
 apart_at (x ∷ ds) (suc i) (suc at) d c once got there ne = apart_at ds i at d c (IsDistinct-tail same_name x.name (names_of ds) once) got there (λ e. ne (ap suc e))
 
 -- the cursor at a place is the one that is kept under its name
-under_at : (pool : Pool) (ds : List Cursor) (i : ℕ) (d : Cursor) → IsDistinct same_name (names_of ds) → slice_get ds i ≡ Some d → kept_under d.name (cursors_in pool ds) ≡ Some (cursor_in pool d)
+pub under_at : (pool : Pool) (ds : List Cursor) (i : ℕ) (d : Cursor) → IsDistinct same_name (names_of ds) → slice_get ds i ≡ Some d → kept_under d.name (cursors_in pool ds) ≡ Some (cursor_in pool d)
 under_at pool [] i d once got = absurd cc
 under_at pool (x ∷ ds) zero d once got =
     let one : x ≡ d = cc in
@@ -84,14 +84,14 @@ under_at pool (x ∷ ds) (suc i) d once got =
     ap (λ b. cond b (Some (cursor_in pool x)) (kept_under d.name (cursors_in pool ds))) (turned x.name d.name (other_of x.name ds i d (IsDistinct-head same_name x.name (names_of ds) once) got))
     ∙ under_at pool ds i d (IsDistinct-tail same_name x.name (names_of ds) once) got
 
-record IsAtPlace (pool : Pool) (q : List ℕ) (k : OpenCursor) (ds : List Cursor) : Type 0 where
-  i : ℕ
-  d : Cursor
-  got : slice_get ds i ≡ Some d
-  seen : cursor_in pool d ≡ k
-  named : same_name q d.name ≡ true
+pub record IsAtPlace (pool : Pool) (q : List ℕ) (k : OpenCursor) (ds : List Cursor) : Type 0 where
+  pub i : ℕ
+  pub d : Cursor
+  pub got : slice_get ds i ≡ Some d
+  pub seen : cursor_in pool d ≡ k
+  pub named : same_name q d.name ≡ true
 
-at_of : (pool : Pool) (q : List ℕ) (k : OpenCursor) (ds : List Cursor) → kept_under q (cursors_in pool ds) ≡ Some k → IsAtPlace pool q k ds
+pub at_of : (pool : Pool) (q : List ℕ) (k : OpenCursor) (ds : List Cursor) → kept_under q (cursors_in pool ds) ≡ Some k → IsAtPlace pool q k ds
 at_of pool q k [] is = absurd cc
 at_of pool q k (x ∷ ds) is = by (same_name q x.name) refl is (at_of pool q k ds)
   where

@@ -32,16 +32,16 @@ use Rattle.serving.proofs.GoneLemmas.{any_joined}
 
 -- ---- names
 
-named_kept : (name : List ℕ) (line : ℕ) → IsKeptName (kept_name name line)
+pub named_kept : (name : List ℕ) (line : ℕ) → IsKeptName (kept_name name line)
 named_kept name line = (
   name ++ (codes "." ++ decimal line),
   sym (append_assoc name (codes "." ++ decimal line) (codes ".kept") ∙ ap (λ l. name ++ l) (append_assoc (codes ".") (decimal line) (codes ".kept"))),
 )
 
-file_one : (a b : List ℕ) → file_of a ≡ file_of b → a ≡ b
+pub file_one : (a b : List ℕ) → file_of a ≡ file_of b → a ≡ b
 file_one a b e = sym (stem_back a) ∙ ap stem e ∙ stem_back b
 
-first_kept : (n : ℕ) (kept : List KeptList) (f : List ℕ) → first_of (kept_files n kept) ≡ Some f → IsKeptName f
+pub first_kept : (n : ℕ) (kept : List KeptList) (f : List ℕ) → first_of (kept_files n kept) ≡ Some f → IsKeptName f
 first_kept n kept f is = let r = file_of_number f n kept is in subst IsKeptName r.named (named_kept r.k.listed.name r.k.line)
 
 -- ---- kept lists, with one more
@@ -114,7 +114,7 @@ module _ (table : Table) (files : Files) (texts : Texts) (m : Machine) (olds : L
   abbrev pub gone : List ℕ
   gone = file_of name
 
-  of_cursor : (q : List ℕ) (c : Kept) → finite.get m.cursors q ≡ Some c → (x : Listed) → IsOneOf x c.lists → IsListIn m x
+  pub of_cursor : (q : List ℕ) (c : Kept) → finite.get m.cursors q ≡ Some c → (x : Listed) → IsOneOf x c.lists → IsListIn m x
   of_cursor q c there x one = inr (inl (record { name = q; cursor = c; got = there; among = one }))
 
   -- a list with the number of the one that goes is that one
@@ -127,7 +127,7 @@ module _ (table : Table) (files : Files) (texts : Texts) (m : Machine) (olds : L
       let same = same_list x there e in
       ap (λ (x : Listed). is_live_by x.version.number (finite.get m.live x.name)) same ∙ ap (is_live_by version.number) got ∙ same_number version.number
 
-  stands_live : (x : Listed) → IsListIn m x → x.version.number ≡ version.number → stands_as m x ≡ Some gone
+  pub stands_live : (x : Listed) → IsListIn m x → x.version.number ≡ version.number → stands_as m x ≡ Some gone
   stands_live x there e =
       ap (λ b. cond b (Some (file_of x.name)) (first_of (kept_files x.version.number m.kept))) (live_by x there e)
       ∙ ap (λ (x : Listed). Some (file_of x.name)) (same_list x there e)

@@ -14,4 +14,8 @@ mod FileLemmas
 mod CloseLemmas
 mod GoneLemmas
 mod ClosedLemmas
+mod CallLemmas
+mod FaultLemmas
+mod ReadLemmas
 mod LeavingLemmas
+mod AsideLemmas

@@ -1,6 +1,7 @@
 -- A segment goes while cursors are open that were opened over it: where its rows stand from then
 -- on.
-use Rattle.std.specs.Prelude.{◌≡◌, ◌≤◌, ◌⊎◌, ℕ, Bool, true, false, List, [], ◌∷◌, drop, length, map, Option, Some, None, Vec, if◌then◌else◌}
+use Rattle.std.specs.Prelude.{◌≡◌, ◌≤◌, ◌⊎◌, ℕ, Bool, true, false, List, [], ◌∷◌, drop, length, map, Option, Some, None, if◌then◌else◌}
+use Rattle.std.specs.Global.{Vec}
 use Rattle.std.specs.List.{list_any}
 use Rattle.outside.specs.Files.{Files, bytes_of, with_file, without_file}
 use Rattle.segment_file.specs.Names.{file_of}

@@ -1,5 +1,5 @@
 -- What calls of cursors answer, and what they leave, by the machine of cursors.
-use Rattle.std.specs.Prelude.{◌≡◌, ℕ, false, List, [], ◌∷◌, length, Option, Some, None, Result, Ok, Err, IfSome, IsSome, IsSomeAnd, MatchOption, OnErr, OnOk}
+use Rattle.std.specs.Prelude.{◌≡◌, ℕ, false, true, List, [], ◌∷◌, length, Option, Some, None, Result, Ok, Err, IfSome, IsSomeAnd, MatchOption, OnErr, OnOk, is_some}
 use Rattle.std.specs.FinMap as finite
 use Rattle.std.specs.List.{AllByRecursion, list_any}
 use Rattle.outside.specs.Files.{Files}
@@ -67,7 +67,7 @@ pub record HasNoPlaceFor (rows : List (List Value)) (name : List ℕ) (table : T
   pub too_large : trees_fit table rows ≡ false
   pub unchanged : IfSome before (λ files. (texts : Texts) (m : Machine)
       → ServingStands old files texts table m → IsSomeAnd after (λ left.
-      IsSome (finite.get m.live name) × ServingStands new left texts table m))
+      (is_some (finite.get m.live name) ≡ true) × ServingStands new left texts table m))
 
 -- ---- what is read
 

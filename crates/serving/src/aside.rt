@@ -79,11 +79,10 @@ pub(crate) fn let_go<D: Depot>(
 }
 
 /// The files of cursors are these from now on.
-pub(crate) fn put_files(cursors: &mut Vec<Cursor>, files: Vec<Vec<Option<Name>>>)
+pub(crate) fn put_files(cursors: &mut Vec<Cursor>, mut files: Vec<Vec<Option<Name>>>)
     requires { length files.items ≡ length cursors.old.items }
     ensures { cursors.new.items ≡ aside.with_files files.items cursors.old.items }
 {
-    let mut files = files;
     'cursors: while let Some(own) = files.pop() {
         cursors[files.len()].files = own;
     }
@@ -171,14 +170,24 @@ fn each_aside(
 {
     let mut own = Vec::with_capacity(alloc, files.len())?;
     'files: for at in 0..files.len() {
-        let stands = if is_file(&files[at], file) {
-            kept
-        } else {
-            &files[at]
-        };
-        own.push(copy_of(stands)?)?;
+        own.push(copy_aside(&files[at], file, kept)?)?;
     }
     Ok(own)
+}
+
+// Where rows stand once a file is gone: those that stood in it in the kept one, if there is one.
+fn copy_aside(
+    stands: &Option<Name>,
+    file: &Name,
+    kept: &Option<Name>,
+) -> Result<Option<Name>, NoMemory>
+    ensures { IfOk result (λ copy. copy ≡ stands_aside file.now kept.now stands.now) }
+{
+    if is_file(stands, file) {
+        copy_of(kept)
+    } else {
+        copy_of(stands)
+    }
 }
 
 // A copy of a name, if there is one.

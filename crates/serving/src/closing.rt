@@ -1,8 +1,10 @@
 //! The kept files of a cursor that no other cursor has are taken away.
 ghost use Rattle.std.specs.Prelude.{◌≡◌, ◌≢◌, ◌⊎◌, ◌<◌, List, ℕ, Some, true, false, IsErrOf, OnErr, OnOk, length, slice_get};
 ghost use Rattle.std.specs.List.{AllByRecursion};
-ghost use Rattle.table_store.specs.Kept.{IsKeptName};
 ghost use Rattle.outside.specs.Files.{without_file};
+ghost use Rattle.outside.specs.Seen.{seen};
+ghost use Rattle.table_store.specs.Calls.{OnlyRemoves};
+ghost use Rattle.table_store.specs.Kept.{IsKeptName};
 ghost use Rattle.serving.specs.Closed as closed;
 ghost use Rattle.serving.specs.Closed.{AreGone, HasNoOther, IsGone, IsReleased, has_file, without_files};
 
@@ -26,6 +28,8 @@ pub(crate) fn release<D: Depot>(
         × (D.held depot.new ≡ without_files names (D.held depot.old))) }
     ensures only { OnErr result
         (IsErrOf result StoreFault.WriteFault ⊎ IsErrOf result StoreFault.NoMemory) }
+    ensures only_removes { OnlyRemoves ⊥ (IsErrOf result StoreFault.WriteFault)
+        (seen D.Shelf depot.old) (seen D.Shelf depot.new) }
 {
     let files = cursors[at].files.as_slice();
     'files: for k in 0..files.len() {
@@ -50,6 +54,8 @@ fn release_file<D: Depot>(
     ensures unchanged { OnErr result (D.held depot.new ≡ D.held depot.old) }
     ensures only { OnErr result
         (IsErrOf result StoreFault.WriteFault ⊎ IsErrOf result StoreFault.NoMemory) }
+    ensures only_removes { OnlyRemoves ⊥ (IsErrOf result StoreFault.WriteFault)
+        (seen D.Shelf depot.old) (seen D.Shelf depot.new) }
 {
     let Some(name) = file else {
         return Ok(());

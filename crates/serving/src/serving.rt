@@ -1,5 +1,5 @@
 //! Cursors that are open, and the pool that their groups are in.
-ghost use Rattle.std.specs.Prelude.{◌≡◌, ◌+◌, ℕ, [], IfOk, IsErrOf, None, OnOk, Some, is_some, length, slice_get};
+ghost use Rattle.std.specs.Prelude.{◌≡◌, ◌+◌, ℕ, [], IfErr, IfOk, IsErrOf, None, OnOk, Some, is_some, length, slice_get};
 ghost use Rattle.std.specs.List.{All, AllByRecursion};
 ghost use Rattle.outside.specs.Files.{Lacks};
 ghost use Rattle.outside.specs.Seen.{OnlyReads, seen};
@@ -16,6 +16,7 @@ ghost use Rattle.table_store.specs.Kept.{kept_name};
 ghost use Rattle.cursor_serve.specs.Machine.{closed, dropped, fetched, opened, replaced, stepped};
 ghost use Rattle.serving.specs.Answered.{next_stored};
 ghost use Rattle.serving.specs.Calls.{HasNoPlaceFor, LosesKept, ReadsOf, SameButOf, Serves};
+ghost use Rattle.serving.specs.Faults.{IsCloseFault, IsDropFault, IsOpenFault, IsReplaceFault, IsStepFault};
 ghost use Rattle.serving.specs.Kept.{AreCursors, IsOver, cursors_in, place_under};
 ghost use Rattle.serving.specs.declared.cursor.Cursor.{Cursor as ACursor};
 
@@ -32,7 +33,7 @@ use sql_reply::answer;
 use std::alloc::Global;
 use table_schema::{BoundQuery, Table};
 use table_store::{
-    StoreFault, drop_segment, drop_stands_law, kept_idle_law, kept_stay_law, replace_segment,
+    StoreFault, drop_segment, drop_stands_law, kept_idle_law, replace_segment,
     replace_stands_law, segment_names,
 };
 use values::Columns;
@@ -90,6 +91,7 @@ impl Serving {
         ensures over { AllByRecursion (IsOver table.now) self.new.cursors.items }
         ensures looks { ReadsNoByte (IsErrOf result ServeFault.ReadFault)
             (seen D.Shelf depot.old) (seen D.Shelf depot.new) }
+        ensures only { IfErr result IsOpenFault }
     {
         if self.holds_cursor(cursor) {
             return Err(ServeFault::CursorTaken);
@@ -137,6 +139,7 @@ impl Serving {
             → slice_get self.old.cursors.items at ≡ Some own
             → ReadsOf own.query table.now (next_stored own (own.answered + 1))
             (seen S.Shelf shelf.old) (seen S.Shelf shelf.new) result }
+        ensures only { IfErr result IsStepFault }
     {
         let Some(at) = place_of(self.cursors.as_slice(), cursor) else {
             return Err(ServeFault::NoCursor);
@@ -179,6 +182,7 @@ impl Serving {
             → slice_get self.old.cursors.items at ≡ Some own
             → ReadsOf own.query table.now (next_stored own (length own.segments))
             (seen S.Shelf shelf.old) (seen S.Shelf shelf.new) result }
+        ensures only { IfErr result IsStepFault }
     {
         let Some(at) = place_of(self.cursors.as_slice(), cursor) else {
             return Err(ServeFault::NoCursor);
@@ -210,6 +214,7 @@ impl Serving {
         ensures loses { LosesKept (D.held depot.old) (D.held depot.new) }
         ensures only_removes { OnlyRemoves ⊥ (IsErrOf result ServeFault.WriteFault)
             (seen D.Shelf depot.old) (seen D.Shelf depot.new) }
+        ensures only { IfErr result IsCloseFault }
     {
         kept_idle_law();
         let Some(at) = place_of(self.cursors.as_slice(), cursor) else {
@@ -246,10 +251,10 @@ impl Serving {
         ensures copies { CopiesFile (file_of name.now) (IsErrOf result ServeFault.ReadFault)
             (IsErrOf result ServeFault.WriteFault)
             (seen D.Shelf depot.old) (seen D.Shelf depot.new) }
+        ensures only { IfErr result IsDropFault }
     {
         drop_stands_law();
         kept_idle_law();
-        kept_stay_law();
         let made = match set_aside(alloc, depot, self.cursors.as_slice(), name, line) {
             Ok(made) => made,
             Err(fault) => return Err(ServeFault::from(fault)),
@@ -299,10 +304,10 @@ impl Serving {
         ensures copies { CopiesFile (file_of name.now) (IsErrOf result ServeFault.ReadFault)
             (IsErrOf result ServeFault.WriteFault)
             (seen D.Shelf depot.old) (seen D.Shelf depot.new) }
+        ensures only { IfErr result IsReplaceFault }
     {
         replace_stands_law();
         kept_idle_law();
-        kept_stay_law();
         let made = match set_aside(alloc, depot, self.cursors.as_slice(), name, line) {
             Ok(made) => made,
             Err(fault) => return Err(ServeFault::from(fault)),
