@@ -1,5 +1,5 @@
 -- A segment goes while cursors are open: the cursors that are left, and what the call answers.
-use Rattle.std.proofs.Common.{◌≡◌, ◌≢◌, ◌∙◌, ◌+◌, ◌<◌, ◌≤◌, ◌||◌, ◌⊎◌, inl, inr, ℕ, zero, suc, Bool, true, false, cond, nat_eq, List, [], ◌∷◌, ◌++◌, drop, get_or, length, map, set, Option, Some, None, IfSome, Result, Ok, Err, refl, sym, ap, subst, arith, is_some, option_map, slice_get}
+use Rattle.std.proofs.Common.{◌≡◌, ◌≢◌, ◌∙◌, ◌+◌, ◌<◌, ◌≤◌, ◌||◌, ◌⊎◌, inl, inr, ℕ, zero, suc, Bool, true, false, cond, nat_eq, List, [], ◌∷◌, ◌++◌, drop, get_or, length, map, set, take, Option, Some, None, IfSome, Result, Ok, Err, refl, sym, ap, subst, arith, is_some, option_map, slice_get}
 use Rattle.std.specs.Prelude.{IsSomeAnd}
 use Rattle.std.specs.FinMap as finite
 use Rattle.std.specs.Global.{Vec}
@@ -7,7 +7,7 @@ use Rattle.std.specs.List.{All, AllByRecursion, IsDistinct, list_any}
 use borrow.Author.Tests.{eqb-true}
 use Rattle.std.proofs.lemmas.Bool.{false≢true}
 use Rattle.std.proofs.lemmas.Cmp.{nat_list_cmp_total}
-use Rattle.std.proofs.lemmas.List.{drop-map, length-map}
+use Rattle.std.proofs.lemmas.List.{drop-map, length-map, take_all, take_more}
 use Rattle.outside.specs.Files.{Files, Lacks, bytes_of, name_order, with_file, without_file}
 use Rattle.values.specs.declared.value.Value.{Value}
 use Rattle.table_schema.specs.ValidTable.{AreRows, IsValidTable}
@@ -45,7 +45,8 @@ use Rattle.serving.specs.declared.cursor.Cursor.{Cursor}
 use Rattle.serving.specs.declared.fault.ServeFault.{ServeFault}
 use Rattle.serving.specs.declared.fault.ServeFault.TheVariants as fault
 use Rattle.serving.proofs.CloseLemmas.{differ, has_mapped, mapped_has, number_of}
-use Rattle.serving.proofs.ClosedLemmas.{IsAtPlace, at_of, under_at}
+use Rattle.serving.proofs.ClosedLemmas.{IsAtPlace, at_of, got_at, under_at}
+use Rattle.serving.proofs.GoneLemmas.{any_joined}
 use Rattle.serving.proofs.LeavingLemmas.{Leaves, awaited_in, first_kept, file_one, leaves_stand, leaving, named_kept, of_cursor, open_aside, stands_live}
 use Rattle.serving.proofs.OpenLemmas.{segments_got}
 
@@ -163,7 +164,7 @@ found_at file (d ∷ ds) any = by (has_file file (drop d.answered d.files.items)
     by true e any more = record { i = 0; d = d; got = refl; has = e }
     by false e any more = let r = more any in record { i = suc r.i; d = r.d; got = r.got; has = r.has }
 
-any_at : (file : List ℕ) (ds : List Cursor) (i : ℕ) (d : Cursor) → slice_get ds i ≡ Some d → has_file file (drop d.answered d.files.items) ≡ true → is_awaited_in file ds ≡ true
+pub any_at : (file : List ℕ) (ds : List Cursor) (i : ℕ) (d : Cursor) → slice_get ds i ≡ Some d → has_file file (drop d.answered d.files.items) ≡ true → is_awaited_in file ds ≡ true
 any_at file [] i d got has = absurd cc
 any_at file (x ∷ ds) zero d got has =
     let one : x ≡ d = cc in
@@ -391,15 +392,17 @@ drops law idle table pool ds name line all fs kept kept_is is (Some files) betwe
     let now : new ≡ Some (finite.remove mid (file_of name)) = is_new ∙ ap (without_file (file_of name)) (told ∙ ap (λ b. Some (mid_of (kept_if b name line) (file_of name) files)) same) in
     let goes_so : dropped line name m ≡ dropped_by line name (Some version) m = ap (λ o. dropped_by line name o m) got in
     subst (λ o. IsSomeAnd o (λ left. IsAnsweredAs (dropped line name m) (ServingStands (cursors_in pool (with_files fs ds)) left texts table) (Stands left (HasTable texts (segments_of m.live))) (Ok tt))) (sym now)
-    (subst (λ (a : After (Unit {0})). IsAnsweredAs a (ServingStands (cursors_in pool (with_files fs ds)) (finite.remove mid (file_of name)) texts table) (Stands (finite.remove mid (file_of name)) (HasTable texts (segments_of m.live))) (Ok tt)) (sym goes_so)
-    (refl, goes table files texts m pool ds stands all name line lacks version got (finite.remove m.live name) m.next (finite.remove mid (file_of name))
-    (λ f ne. finite.get-remove nat_list_cmp_total mid (file_of name) f ∙ ap (λ b. cond b None (finite.get mid f)) (differ f (file_of name) ne))
-    (λ n q below. ap (is_live_by n) (finite.get-remove nat_list_cmp_total m.live name q) ∙ less_by n (same_name q name) (finite.get m.live q))
-    (subst (λ s. Stands (finite.remove mid (file_of name)) (HasTable texts s)) (sym (segments_less m.live name))
-    (law mid texts (segments_of m.live) name (mid_stands table files texts m pool ds stands all name line idle (is_awaited version.number m.cursors))))
-    (subst (λ (a : After (Unit {0})). IsSound a.machine) goes_so (stays_sound line (Drop name) m stands.sound))
-    (subst (λ (a : After (Unit {0})). IsNumbered a.machine) goes_so (stays_numbered line (Drop name) m stands.sound stands.numbered))
-    fs (subst (λ k. map (λ f. f.items) fs ≡ files_aside (file_of name) k ds) kept_is is)))
+    (subst (λ (a : After (Unit {0})). IsAnsweredAs a (ServingStands (cursors_in pool (with_files fs ds)) (finite.remove mid (file_of name)) texts table) (Stands (finite.remove mid (file_of name)) (HasTable texts (segments_of m.live))) (Ok tt)) (sym goes_so) (
+      refl,
+      goes table files texts m pool ds stands all name line lacks version got (finite.remove m.live name) m.next (finite.remove mid (file_of name))
+          (λ f ne. finite.get-remove nat_list_cmp_total mid (file_of name) f ∙ ap (λ b. cond b None (finite.get mid f)) (differ f (file_of name) ne))
+          (λ n q below. ap (is_live_by n) (finite.get-remove nat_list_cmp_total m.live name q) ∙ less_by n (same_name q name) (finite.get m.live q))
+          (subst (λ s. Stands (finite.remove mid (file_of name)) (HasTable texts s)) (sym (segments_less m.live name))
+          (law mid texts (segments_of m.live) name (mid_stands table files texts m pool ds stands all name line idle (is_awaited version.number m.cursors))))
+          (subst (λ (a : After (Unit {0})). IsSound a.machine) goes_so (stays_sound line (Drop name) m stands.sound))
+          (subst (λ (a : After (Unit {0})). IsNumbered a.machine) goes_so (stays_numbered line (Drop name) m stands.sound stands.numbered))
+          fs (subst (λ k. map (λ f. f.items) fs ≡ files_aside (file_of name) k ds) kept_is is),
+    ))
 
 -- ---- rows come in its place
 
@@ -426,16 +429,18 @@ replaces law idle table pool ds name line rows named can all fs kept kept_is is 
     let now : new ≡ Some left = is_new ∙ ap (with_file (file_of name) bytes) (told ∙ ap (λ b. Some (mid_of (kept_if b name line) (file_of name) files)) same) in
     let goes_so : replaced line name own m ≡ replaced_by line name own (Some version) m = ap (λ o. replaced_by line name own o m) got in
     subst (λ o. IsSomeAnd o (λ left. IsAnsweredAs (replaced line name own m) (ServingStands (cursors_in pool (with_files fs ds)) left texts table) (Stands left (HasTable texts (segments_of m.live))) (Ok tt))) (sym now)
-    (subst (λ (a : After (Unit {0})). IsAnsweredAs a (ServingStands (cursors_in pool (with_files fs ds)) left texts table) (Stands left (HasTable texts (segments_of m.live))) (Ok tt)) (sym goes_so)
-    (refl, goes table files texts m pool ds stands all name line lacks version got (finite.insert m.live name v) (m.next + 1) left
-    (λ f ne. finite.get-insert nat_list_cmp_total mid (file_of name) bytes f ∙ ap (λ b. cond b (Some bytes) (finite.get mid f)) (differ f (file_of name) ne))
-    (λ n q below. ap (is_live_by n) (finite.get-insert nat_list_cmp_total m.live name v q) ∙ more_by n (same_name q name) v (finite.get m.live q) (unlike m.next n (λ e. omega (arith, e, below))))
-    (subst (λ s. Stands left (HasTable texts s)) (sym (segments_with m.live name v))
-    (law mid texts (segments_of m.live) table name rows (segment_of version) (mid_stands table files texts m pool ds stands all name line idle (is_awaited version.number m.cursors)) stands.accepted named can
-    (segments_got m.live name ∙ ap (option_map segment_of) got)))
-    (subst (λ (a : After (Unit {0})). IsSound a.machine) goes_so (stays_sound line (Replace name own) m stands.sound))
-    (subst (λ (a : After (Unit {0})). IsNumbered a.machine) goes_so (stays_numbered line (Replace name own) m stands.sound stands.numbered))
-    fs (subst (λ k. map (λ f. f.items) fs ≡ files_aside (file_of name) k ds) kept_is is)))
+    (subst (λ (a : After (Unit {0})). IsAnsweredAs a (ServingStands (cursors_in pool (with_files fs ds)) left texts table) (Stands left (HasTable texts (segments_of m.live))) (Ok tt)) (sym goes_so) (
+      refl,
+      goes table files texts m pool ds stands all name line lacks version got (finite.insert m.live name v) (m.next + 1) left
+          (λ f ne. finite.get-insert nat_list_cmp_total mid (file_of name) bytes f ∙ ap (λ b. cond b (Some bytes) (finite.get mid f)) (differ f (file_of name) ne))
+          (λ n q below. ap (is_live_by n) (finite.get-insert nat_list_cmp_total m.live name v q) ∙ more_by n (same_name q name) v (finite.get m.live q) (unlike m.next n (λ e. omega (arith, e, below))))
+          (subst (λ s. Stands left (HasTable texts s)) (sym (segments_with m.live name v))
+          (law mid texts (segments_of m.live) table name rows (segment_of version) (mid_stands table files texts m pool ds stands all name line idle (is_awaited version.number m.cursors)) stands.accepted named can
+          (segments_got m.live name ∙ ap (option_map segment_of) got)))
+          (subst (λ (a : After (Unit {0})). IsSound a.machine) goes_so (stays_sound line (Replace name own) m stands.sound))
+          (subst (λ (a : After (Unit {0})). IsNumbered a.machine) goes_so (stays_numbered line (Replace name own) m stands.sound stands.numbered))
+          fs (subst (λ k. map (λ f. f.items) fs ≡ files_aside (file_of name) k ds) kept_is is),
+    ))
   where
     unlike : (a b : ℕ) → a ≢ b → nat_eq a b ≡ false
     unlike a b ne = by (nat_eq a b) refl
@@ -453,7 +458,7 @@ IsLost store.WriteFault = Unit {0}
 IsLost store.NoMemory = Unit {0}
 IsLost other = ⊥
 
-lost_by : {A : Type 0} (after : After A) (stands : Machine → Type 0) (live : Type 0) (why : StoreFault) → IsLost why → live → IsAnsweredAs {A} after stands live (Err (of_store why))
+lost_by : {A : Type 0} (after : After A) (stands : Machine → Type 0) (live : Type 0) (why : StoreFault) → IsLost why → live → IsAnsweredAs after stands live (Err (of_store why))
 lost_by after stands live store.TableExists lost it = absurd lost
 lost_by after stands live store.NoTable lost it = absurd lost
 lost_by after stands live store.NameTaken lost it = absurd lost
@@ -629,8 +634,8 @@ module _ (T : Type 0) (why : StoreFault) where
 
 pub failed_so : {A : Type 0} → KeptIdle → (step : Machine → After A) (table : Table) (pool : Pool) (ds : List Cursor) (name : List ℕ) (line : ℕ) → AreCursors pool ds → (held new : Option Files) → MayHaveCopy name line held new
     → (why : StoreFault) (own : ServeFault) → own ≡ of_store why
-    → (why ≡ store.NoSegment → Serves {A} step table (cursors_in pool ds) (cursors_in pool ds) held new (Err fault.NoSegment)) → (why ≡ store.NoSegment) ⊎ IsLost why
-    → Serves {A} step table (cursors_in pool ds) (cursors_in pool ds) held new (Err own)
+    → (why ≡ store.NoSegment → Serves step table (cursors_in pool ds) (cursors_in pool ds) held new (Err fault.NoSegment)) → (why ≡ store.NoSegment) ⊎ IsLost why
+    → Serves step table (cursors_in pool ds) (cursors_in pool ds) held new (Err own)
 failed_so idle step table pool ds name line all held new copy why own is missed (inl e) =
     subst (λ w. Serves step table (cursors_in pool ds) (cursors_in pool ds) held new (Err w)) (sym (is ∙ ap of_store e)) (missed e)
 failed_so idle step table pool ds name line all held new copy why own is missed (inr lost) =
@@ -668,3 +673,17 @@ replace_only (fault.NotASegment part) may = may
 replace_only fault.ReadFault may = may
 replace_only fault.WriteFault may = may
 replace_only fault.NoMemory may = may
+
+-- ---- the first cursors
+
+module _ (file : List ℕ) (ds : List Cursor) (at : ℕ) where
+  pub awaited_here : (d : Cursor) → at < length ds → d ≡ get_or ds at d → has_file file (drop d.answered d.files.items) ≡ true → is_awaited_in file ds ≡ true
+  awaited_here d lt is has = any_at file ds at d (got_at ds at d d lt (sym is)) has
+
+  pub awaited_more : (d : Cursor) → at < length ds → d ≡ get_or ds at d → is_awaited_in file (take at ds) ≡ false → has_file file (drop d.answered d.files.items) ≡ false → is_awaited_in file (take (at + 1) ds) ≡ false
+  awaited_more d lt is none has =
+      let last : has_file file (drop (get_or ds at d).answered (get_or ds at d).files.items) ≡ false = ap (λ (d : Cursor). has_file file (drop d.answered d.files.items)) (sym is) ∙ has in
+      ap (is_awaited_in file) (take_more ds at d lt) ∙ any_joined (λ (c : Cursor). has_file file (drop c.answered c.files.items)) (take at ds) (get_or ds at d) ∙ (λ i. none i || last i)
+
+  pub awaited_never : length ds ≤ at → is_awaited_in file (take at ds) ≡ false → is_awaited_in file ds ≡ false
+  awaited_never over none = sym (ap (is_awaited_in file) (take_all at ds over)) ∙ none

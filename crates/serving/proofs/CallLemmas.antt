@@ -11,7 +11,7 @@ use Rattle.table_store.specs.Calls.{CopiesFile, OnlyPublishes, OnlyRemoves}
 use Rattle.table_store.specs.declared.fault.StoreFault.{StoreFault}
 use Rattle.table_store.specs.declared.fault.StoreFault.TheVariants as store
 use Rattle.table_store.proofs.CopyLemmas.{copies_after, copies_so}
-use Rattle.query_executor.proofs.EndLemmas.{own_fault}
+use Rattle.query_executor.proofs.EndLemmas.{Done, Failed, own_fault}
 use Rattle.serving.specs.Faults.{of_store}
 use Rattle.serving.specs.declared.fault.ServeFault.{ServeFault}
 use Rattle.serving.specs.declared.fault.ServeFault.TheVariants as fault
@@ -117,16 +117,16 @@ to_write store.WriteFault e = refl
 to_write store.NoMemory e = absurd cc
 
 module _ (T U : Type 0) where
-  pub fine : (x : T) (y : U) (f : StoreFault) (g : ServeFault) → IsErrOf {T} {StoreFault} (Ok x) f ↔ IsErrOf {U} {ServeFault} (Ok y) g
+  pub fine : (x : T) (y : U) (f : StoreFault) (g : ServeFault) → IsErrOf (Done {E = StoreFault} x) f ↔ IsErrOf (Done {E = ServeFault} y) g
   fine x y f g = (λ e. absurd (no_err x f e), λ e. absurd (no_err y g e))
 
-  pub fails_to_read : (why : StoreFault) (own : ServeFault) → own ≡ of_store why → IsErrOf {T} {StoreFault} (Err why) store.ReadFault ↔ IsErrOf {U} {ServeFault} (Err own) fault.ReadFault
+  pub fails_to_read : (why : StoreFault) (own : ServeFault) → own ≡ of_store why → IsErrOf (Failed T why) store.ReadFault ↔ IsErrOf (Failed U own) fault.ReadFault
   fails_to_read why own is = (
     λ e. ap Err (is ∙ ap of_store (own_fault T why store.ReadFault e)),
     λ e. ap Err (to_read why (sym is ∙ own_fault U own fault.ReadFault e)),
   )
 
-  pub fails_to_write : (why : StoreFault) (own : ServeFault) → own ≡ of_store why → IsErrOf {T} {StoreFault} (Err why) store.WriteFault ↔ IsErrOf {U} {ServeFault} (Err own) fault.WriteFault
+  pub fails_to_write : (why : StoreFault) (own : ServeFault) → own ≡ of_store why → IsErrOf (Failed T why) store.WriteFault ↔ IsErrOf (Failed U own) fault.WriteFault
   fails_to_write why own is = (
     λ e. ap Err (is ∙ ap of_store (own_fault T why store.WriteFault e)),
     λ e. ap Err (to_write why (sym is ∙ own_fault U own fault.WriteFault e)),
@@ -151,9 +151,9 @@ neither : {P Q : Type 0} → ¬ P → ¬ Q → P ↔ Q
 neither p q = ((λ e. absurd (p e)), (λ e. absurd (q e)))
 
 -- a call that did not fail so
-pub quiet : (file : List ℕ) (M : Type 0) (x : M) (a b : Seen) → Copies file {M} (Ok x) a b → CopiesFile file ⊥ ⊥ a b
+pub quiet : (file : List ℕ) (M : Type 0) (x : M) (a b : Seen) → Copies file (Done {E = StoreFault} x) a b → CopiesFile file ⊥ ⊥ a b
 quiet file M x a b is =
-    copies_so file (FailsToRead {M} (Ok x)) (FailsToWrite {M} (Ok x)) ⊥ ⊥ a b (neither (λ e. no_err x store.ReadFault e) (λ e. e)) (neither (λ e. no_err x store.WriteFault e) (λ e. e)) is
+    copies_so file (FailsToRead (Done {E = StoreFault} x)) (FailsToWrite (Done {E = StoreFault} x)) ⊥ ⊥ a b (neither (λ e. no_err x store.ReadFault e) (λ e. e)) (neither (λ e. no_err x store.WriteFault e) (λ e. e)) is
 
 read_not_large : store.TooLarge ≢ store.ReadFault
 read_not_large e = absurd cc
@@ -161,20 +161,20 @@ read_not_large e = absurd cc
 write_not_large : store.TooLarge ≢ store.WriteFault
 write_not_large e = absurd cc
 
-pub quiet_large : (file : List ℕ) (T : Type 0) (a b : Seen) → Copies file {T} (Err store.TooLarge) a b → CopiesFile file ⊥ ⊥ a b
+pub quiet_large : (file : List ℕ) (T : Type 0) (a b : Seen) → Copies file (Failed T store.TooLarge) a b → CopiesFile file ⊥ ⊥ a b
 quiet_large file T a b is =
-    copies_so file (FailsToRead {T} (Err store.TooLarge)) (FailsToWrite {T} (Err store.TooLarge)) ⊥ ⊥ a b
+    copies_so file (FailsToRead (Failed T store.TooLarge)) (FailsToWrite (Failed T store.TooLarge)) ⊥ ⊥ a b
     (neither (λ e. read_not_large (own_fault T store.TooLarge store.ReadFault e)) (λ e. e)) (neither (λ e. write_not_large (own_fault T store.TooLarge store.WriteFault e)) (λ e. e)) is
 
 module _ (file : List ℕ) (a b : Seen) (U : Type 0) where
-  pub fails_so : (T : Type 0) (why : StoreFault) (own : ServeFault) → own ≡ of_store why → Copies file {T} (Err why) a b → CopiesSo file {U} (Err own) a b
+  pub fails_so : (T : Type 0) (why : StoreFault) (own : ServeFault) → own ≡ of_store why → Copies file (Failed T why) a b → CopiesSo file (Failed U own) a b
   fails_so T why own is it =
-      copies_so file (FailsToRead {T} (Err why)) (FailsToWrite {T} (Err why)) (IsErrOf {U} {ServeFault} (Err own) fault.ReadFault) (IsErrOf {U} {ServeFault} (Err own) fault.WriteFault) a b
+      copies_so file (FailsToRead (Failed T why)) (FailsToWrite (Failed T why)) (IsErrOf (Failed U own) fault.ReadFault) (IsErrOf (Failed U own) fault.WriteFault) a b
       (fails_to_read T U why own is) (fails_to_write T U why own is) it
 
-  pub ends_so : (T : Type 0) (x : T) (y : U) → Copies file {T} (Ok x) a b → CopiesSo file {U} (Ok y) a b
+  pub ends_so : (T : Type 0) (x : T) (y : U) → Copies file (Done {E = StoreFault} x) a b → CopiesSo file (Done {E = ServeFault} y) a b
   ends_so T x y it =
-      copies_so file (FailsToRead {T} (Ok x)) (FailsToWrite {T} (Ok x)) (IsErrOf {U} {ServeFault} (Ok y) fault.ReadFault) (IsErrOf {U} {ServeFault} (Ok y) fault.WriteFault) a b
+      copies_so file (FailsToRead (Done {E = StoreFault} x)) (FailsToWrite (Done {E = StoreFault} x)) (IsErrOf (Done {E = ServeFault} y) fault.ReadFault) (IsErrOf (Done {E = ServeFault} y) fault.WriteFault) a b
       (fine T U x y store.ReadFault fault.ReadFault) (fine T U x y store.WriteFault fault.WriteFault) it
 
 serve_read_not_large : fault.TooLarge ≢ fault.ReadFault
@@ -184,14 +184,14 @@ serve_write_not_large : fault.TooLarge ≢ fault.WriteFault
 serve_write_not_large e = absurd cc
 
 -- it was refused in the end, and what was copied was taken away
-pub ends_large : (file : List ℕ) (U : Type 0) (a b : Seen) → CopiesFile file ⊥ ⊥ a b → CopiesSo file {U} (Err fault.TooLarge) a b
+pub ends_large : (file : List ℕ) (U : Type 0) (a b : Seen) → CopiesFile file ⊥ ⊥ a b → CopiesSo file (Failed U fault.TooLarge) a b
 ends_large file U a b is =
-    copies_so file ⊥ ⊥ (IsErrOf {U} {ServeFault} (Err fault.TooLarge) fault.ReadFault) (IsErrOf {U} {ServeFault} (Err fault.TooLarge) fault.WriteFault) a b
+    copies_so file ⊥ ⊥ (IsErrOf (Failed U fault.TooLarge) fault.ReadFault) (IsErrOf (Failed U fault.TooLarge) fault.WriteFault) a b
     (neither (λ e. e) (λ e. serve_read_not_large (own_fault U fault.TooLarge fault.ReadFault e))) (neither (λ e. e) (λ e. serve_write_not_large (own_fault U fault.TooLarge fault.WriteFault e))) is
 
 -- what was copied could not be taken away
-pub fails_back : (file : List ℕ) (T U : Type 0) (why : StoreFault) (own : ServeFault) (a b : Seen) → own ≡ of_store why → why ≢ store.ReadFault → OnlyRemoves ⊥ (FailsToWrite {T} (Err why)) a b → CopiesSo file {U} (Err own) a b
+pub fails_back : (file : List ℕ) (T U : Type 0) (why : StoreFault) (own : ServeFault) (a b : Seen) → own ≡ of_store why → why ≢ store.ReadFault → OnlyRemoves ⊥ (FailsToWrite (Failed T why)) a b → CopiesSo file (Failed U own) a b
 fails_back file T U why own a b is unread it =
-    copies_so file ⊥ (FailsToWrite {T} (Err why)) (IsErrOf {U} {ServeFault} (Err own) fault.ReadFault) (IsErrOf {U} {ServeFault} (Err own) fault.WriteFault) a b
+    copies_so file ⊥ (FailsToWrite (Failed T why)) (IsErrOf (Failed U own) fault.ReadFault) (IsErrOf (Failed U own) fault.WriteFault) a b
     (neither (λ e. e) (λ e. unread (to_read why (sym is ∙ own_fault U own fault.ReadFault e)))) (fails_to_write T U why own is)
-    (of_removes file ⊥ (FailsToWrite {T} (Err why)) a b it)
+    (of_removes file ⊥ (FailsToWrite (Failed T why)) a b it)

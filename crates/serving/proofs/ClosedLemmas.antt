@@ -16,6 +16,7 @@ use Rattle.table_store.specs.declared.fault.StoreFault.TheVariants as store
 use Rattle.query_executor.proofs.EndLemmas.{Failed, own_fault}
 use Rattle.serving.specs.Faults.{of_store}
 use Rattle.std.specs.Option.{option_map}
+use Rattle.std.specs.Prelude.{IsSomeAnd}
 use Rattle.table_store.specs.State.{HasTable, Texts}
 use Rattle.cursor_serve.specs.Machine as machine
 use Rattle.cursor_serve.specs.Machine.{After, Close, Cursor as Kept, Machine, closed, closed_by}
@@ -231,7 +232,7 @@ module _ (table : Table) (idle : KeptIdle) (pool new : Pool) (ds : List Cursor) 
       → Serves (closed name) table (cursors_in pool ds) (cursors_in pool ds) held_old held_new (Err why)
   closes_failed None held_new names why kept same f = tt
   closes_failed (Some files) held_new names why kept same f = λ texts m stands.
-      subst (λ o. IfSome o (λ left. IsAnsweredAs (closed name m) (ServingStands (cursors_in pool ds) left texts table) (Stands left (HasTable texts (segments_of m.live))) (Err why)))
+      subst (λ o. IsSomeAnd o (λ left. IsAnsweredAs (closed name m) (ServingStands (cursors_in pool ds) left texts table) (Stands left (HasTable texts (segments_of m.live))) (Err why)))
       (sym (same ∙ without_told names files))
       (f (closed name m) (ServingStands (cursors_in pool ds) (left_of names files) texts table) (Stands (left_of names files) (HasTable texts (segments_of m.live))) (left_stands idle texts (segments_of m.live) names files kept stands.live))
 
@@ -262,7 +263,7 @@ module _ (table : Table) (idle : KeptIdle) (pool new : Pool) (ds : List Cursor) 
         let goes : closed name m ≡ closed_by name (Some found.cursor) m = ap (λ o. closed_by name o m) found.got in
         let takes : TakesUnder name olds (cursors_in new (remove ds at)) = subst (TakesUnder name olds) (sym (seen_out pool new c keeps ds at place_c all.each))
         (takes_at name olds at (cursor_in pool c) (seen_at pool ds at c got) (sym (tied name c.name named)) (subst (IsDistinct same_name) (sym (names_seen pool ds)) all.names)) in
-        subst (λ o. IfSome o (λ left. IsAnsweredAs (closed name m) (ServingStands (cursors_in new (remove ds at)) left texts table) (Stands left (HasTable texts (segments_of m.live))) (Ok tt)))
+        subst (λ o. IsSomeAnd o (λ left. IsAnsweredAs (closed name m) (ServingStands (cursors_in new (remove ds at)) left texts table) (Stands left (HasTable texts (segments_of m.live))) (Ok tt)))
         (sym (same ∙ without_told names files))
         (subst (λ (a : After (Unit {0})). IsAnsweredAs a (ServingStands (cursors_in new (remove ds at)) (left_of names files) texts table) (Stands (left_of names files) (HasTable texts (segments_of m.live))) (Ok tt)) (sym goes) (
           refl,
@@ -287,7 +288,7 @@ pub closes_fault : (table : Table) → KeptIdle → (pool : Pool) (ds : List Cur
     → (why ≡ store.WriteFault) ⊎ (why ≡ store.NoMemory) → Serves (closed name) table (cursors_in pool ds) (cursors_in pool ds) old new (Err (of_store why))
 closes_fault table idle pool ds name None new names why kept same is = tt
 closes_fault table idle pool ds name (Some files) new names why kept same is = λ texts m stands.
-    subst (λ o. IfSome o (λ left. IsAnsweredAs (closed name m) (ServingStands (cursors_in pool ds) left texts table) (Stands left (HasTable texts (segments_of m.live))) (Err (of_store why))))
+    subst (λ o. IsSomeAnd o (λ left. IsAnsweredAs (closed name m) (ServingStands (cursors_in pool ds) left texts table) (Stands left (HasTable texts (segments_of m.live))) (Err (of_store why))))
     (sym (same ∙ without_told names files))
     (by (closed name m) (ServingStands (cursors_in pool ds) (left_of names files) texts table) (Stands (left_of names files) (HasTable texts (segments_of m.live))) why is (left_stands idle texts (segments_of m.live) names files kept stands.live))
   where

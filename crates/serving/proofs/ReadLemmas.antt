@@ -16,6 +16,7 @@ use Rattle.segment_reads.proofs.GrownLemmas.{each_as}
 use Rattle.segment_reads.proofs.LogLemmas.{logs_none}
 use Rattle.segment_reads.proofs.SpanLemmas.{planned_less}
 use Rattle.query_executor.specs.Passes.{PassReads}
+use Rattle.query_executor.proofs.EndLemmas.{Done, Failed}
 use Rattle.query_executor.specs.declared.fault.ExecutorFault.{ExecutorFault}
 use Rattle.serving.specs.Answered.{next_stored}
 use Rattle.serving.specs.Calls.{ReadsOf}
@@ -27,14 +28,14 @@ use Rattle.serving.proofs.ClosedLemmas.{got_at}
 use Rattle.serving.proofs.PlaceLemmas.{place_within}
 
 module _ (query : BoundQuery) (table : Table) (stored : List Stored) (T U : Type 0) (a b : Seen) where
-  pub reads_done : (x : T) (y : U) → PassReads query table stored a b (Ok {T} {ExecutorFault} x) → ReadsOf query table stored a b (Ok {U} {ServeFault} y)
+  pub reads_done : (x : T) (y : U) → PassReads query table stored a b (Done {E = ExecutorFault} x) → ReadsOf query table stored a b (Done {E = ServeFault} y)
   reads_done x y p = record { log = p.log; reads = p.reads; reads_of_fault = tt }
 
-  pub reads_failed : (fault : ExecutorFault) (why : ServeFault) → PassReads query table stored a b (Err {T} {ExecutorFault} fault) → ReadsOf query table stored a b (Err {U} {ServeFault} why)
+  pub reads_failed : (fault : ExecutorFault) (why : ServeFault) → PassReads query table stored a b (Failed T fault) → ReadsOf query table stored a b (Failed U why)
   reads_failed fault why p = record { log = p.log; reads = tt; reads_of_fault = p.reads_of_fault }
 
   -- a fault after all was read
-  pub reads_lacking : (x : T) (why : ServeFault) → PassReads query table stored a b (Ok {T} {ExecutorFault} x) → ReadsOf query table stored a b (Err {U} {ServeFault} why)
+  pub reads_lacking : (x : T) (why : ServeFault) → PassReads query table stored a b (Done {E = ExecutorFault} x) → ReadsOf query table stored a b (Failed U why)
   reads_lacking x why p = record {
     log = p.log;
     reads = tt;
@@ -49,8 +50,8 @@ each_none P table (Some files) old new before entries is now = λ segments zip a
 none_in : (names : List (List ℕ)) (files : List (Option (List ℕ))) → names ≡ [] → stored_in names files ≡ []
 none_in names files is = ap (λ names. stored_in names files) is
 
-pub reads_none : (query : BoundQuery) (table : Table) (stored : List Stored) (a : Seen) (U : Type 0) (y : U) → stored ≡ [] → ReadsOf query table stored a a (Ok {U} {ServeFault} y)
-reads_none query table stored a U y is = subst (λ stored. ReadsOf query table stored a a (Ok {U} {ServeFault} y)) (sym is) (record {
+pub reads_none : (query : BoundQuery) (table : Table) (stored : List Stored) (a : Seen) (U : Type 0) (y : U) → stored ≡ [] → ReadsOf query table stored a a (Done {E = ServeFault} y)
+reads_none query table stored a U y is = subst (λ stored. ReadsOf query table stored a a (Done {E = ServeFault} y)) (sym is) (record {
   log = logs_none (IsFileOf []) a.log;
   reads = each_none (ReadsPlanned query table true) table a.held a.log a.log;
   reads_of_fault = tt;

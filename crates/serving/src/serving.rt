@@ -33,8 +33,8 @@ use sql_reply::answer;
 use std::alloc::Global;
 use table_schema::{BoundQuery, Table};
 use table_store::{
-    StoreFault, drop_segment, drop_stands_law, kept_idle_law, replace_segment,
-    replace_stands_law, segment_names,
+    StoreFault, drop_segment, drop_stands_law, kept_idle_law, replace_segment, replace_stands_law,
+    segment_names,
 };
 use values::Columns;
 
@@ -229,8 +229,9 @@ impl Serving {
         Ok(())
     }
 
-    /// Drops a segment at a line, under which no file is kept so far. Its file is kept where a cursor has still to answer it; the change
-    /// of the live segments is the last call on the depot, and takes no memory after it.
+    /// Drops a segment at a line, under which no file is kept so far. The segment's file is kept
+    /// where a cursor has still to answer it; the change of the live segments is the last call on
+    /// the depot, and takes no memory after it.
     pub fn drop_live<D: Depot>(
         &mut self,
         alloc: Global,
@@ -267,9 +268,9 @@ impl Serving {
         Ok(())
     }
 
-    /// Puts rows in the place of those of a segment at a line, under which no file is kept so far. The file of these is kept where a
-    /// cursor has still to answer them; the change of the live segments is the last call on the
-    /// depot, and takes no memory after it.
+    /// Puts rows in the place of those of a segment at a line, under which no file is kept so far.
+    /// The file of these is kept where a cursor has still to answer them; the change of the live
+    /// segments is the last call on the depot, and takes no memory after it.
     pub fn replace_live<D: Depot>(
         &mut self,
         alloc: Global,
@@ -292,7 +293,8 @@ impl Serving {
             (cursors_in self.new.pool self.new.cursors.items)
             (D.held depot.old) (D.held depot.new) result }
         ensures too_large { Lacks (D.held depot.old) (kept_name name.now line)
-            → IsErrOf result ServeFault.TooLarge → HasNoPlaceFor (rows_of columns) name.now table.now
+            → IsErrOf result ServeFault.TooLarge
+            → HasNoPlaceFor (rows_of columns) name.now table.now
             (cursors_in self.old.pool self.old.cursors.items)
             (cursors_in self.new.pool self.new.cursors.items)
             (D.held depot.old) (D.held depot.new) }

@@ -4,6 +4,7 @@ use Rattle.std.proofs.lemmas.List.{take_all, take_more}
 use Rattle.outside.specs.Seen.{Seen, seen}
 use Rattle.table_store.specs.declared.fault.StoreFault.{StoreFault}
 use Rattle.table_store.specs.declared.fault.StoreFault.TheVariants.{WriteFault}
+use Rattle.query_executor.proofs.EndLemmas.{Done, Failed}
 use Rattle.serving.specs.Closed.{has_file}
 use Rattle.serving.specs.declared.cursor.Cursor.{Cursor}
 use Rattle.serving.proofs.CallLemmas.{no_err, removes_after, removes_not}
@@ -28,16 +29,16 @@ files-preserved g c =
     record {
       gone = subst (λ l. HaveGone c.args.at c.args.cursors.now l (g.D.Shelf.held c.args.depot.now) (g.D.Shelf.held c.release_file.new.depot)) (sym more)
           (more_gone c.args.at c.args.cursors.now (take k files) file (g.D.Shelf.held c.args.depot.now) (g.D.Shelf.held c.files.depot) (g.D.Shelf.held c.release_file.new.depot) c.files.invariant.gone c.in-Ok.ensures.released);
-      removes = removes_after ⊥ a b d c.files.invariant.removes (removes_not (IsErrOf {Unit {0}} {StoreFault} (Ok tt) WriteFault) ⊥ b d (λ e. no_err tt WriteFault e) (λ e. e) c.in-Ok.ensures.only_removes);
+      removes = removes_after ⊥ a b d c.files.invariant.removes (removes_not (IsErrOf (Done {E = StoreFault} (tt {0})) WriteFault) ⊥ b d (λ e. no_err (tt {0}) WriteFault e) (λ e. e) c.in-Ok.ensures.only_removes);
     }
 
 pub returns-in-Err-clause-only_removes : goal.returns-in-Err-clause-only_removes
 returns-in-Err-clause-only_removes g c =
-    removes_after (IsErrOf {Unit {0}} {StoreFault} (Err c.in-Err.fault) WriteFault) (seen g.D.Shelf c.args.depot.now) (seen g.D.Shelf c.files.depot) (seen g.D.Shelf c.release_file.new.depot) c.files.invariant.removes c.in-Err.ensures.only_removes
+    removes_after (IsErrOf (Failed (Unit {0}) c.in-Err.fault) WriteFault) (seen g.D.Shelf c.args.depot.now) (seen g.D.Shelf c.files.depot) (seen g.D.Shelf c.release_file.new.depot) c.files.invariant.removes c.in-Err.ensures.only_removes
 
 pub returns-clause-only_removes : goal.returns-clause-only_removes
 returns-clause-only_removes g c =
-    removes_not ⊥ (IsErrOf {Unit {0}} {StoreFault} (Ok tt) WriteFault) (seen g.D.Shelf c.args.depot.now) (seen g.D.Shelf c.files.depot) (λ e. e) (λ e. no_err tt WriteFault e) c.files.invariant.removes
+    removes_not ⊥ (IsErrOf (Done {E = StoreFault} (tt {0})) WriteFault) (seen g.D.Shelf c.args.depot.now) (seen g.D.Shelf c.files.depot) (λ e. e) (λ e. no_err (tt {0}) WriteFault e) c.files.invariant.removes
 
 pub returns-clause-gone : goal.returns-clause-gone
 returns-clause-gone g c =
