@@ -687,3 +687,22 @@ module _ (file : List ℕ) (ds : List Cursor) (at : ℕ) where
 
   pub awaited_never : length ds ≤ at → is_awaited_in file (take at ds) ≡ false → is_awaited_in file ds ≡ false
   awaited_never over none = sym (ap (is_awaited_in file) (take_all at ds over)) ∙ none
+
+-- what is lost is no refusal
+pub lost_not_missed : (why : StoreFault) → IsLost why → why ≢ store.NoSegment
+lost_not_missed why lost e = subst IsLost e lost
+
+pub not_large_drop : (own : ServeFault) → IsDropFault own → Failed (Unit {0}) own ≢ Failed (Unit {0}) fault.TooLarge
+not_large_drop own may e = subst IsDropFault (own_fault (Unit {0}) own fault.TooLarge e) may
+
+pub write_not_read : (T : Type 0) (why : StoreFault) → (Failed T why ≡ Failed T store.WriteFault) ⊎ (Failed T why ≡ Failed T store.NoMemory) → why ≢ store.ReadFault
+write_not_read T why (inl e) read = let both : store.WriteFault ≡ store.ReadFault = sym (own_fault T why store.WriteFault e) ∙ read in absurd cc
+write_not_read T why (inr e) read = let both : store.NoMemory ≡ store.ReadFault = sym (own_fault T why store.NoMemory e) ∙ read in absurd cc
+
+-- a kept file has the name of one
+pub copy_named : (kept : Option (List ℕ)) (b : Bool) (name : List ℕ) (line : ℕ) → kept ≡ kept_if b name line → IfSome kept IsKeptName
+copy_named kept b name line is = subst (λ k. IfSome k IsKeptName) (sym is) (by b)
+  where
+    by : (b : Bool) → IfSome (kept_if b name line) IsKeptName
+    by true = named_kept name line
+    by false = tt

@@ -195,3 +195,8 @@ fails_back file T U why own a b is unread it =
     copies_so file ⊥ (FailsToWrite (Failed T why)) (IsErrOf (Failed U own) fault.ReadFault) (IsErrOf (Failed U own) fault.WriteFault) a b
     (neither (λ e. e) (λ e. unread (to_read why (sym is ∙ own_fault U own fault.ReadFault e)))) (fails_to_write T U why own is)
     (of_removes file ⊥ (FailsToWrite (Failed T why)) a b it)
+
+pub fails_back_after : (file : List ℕ) (T U : Type 0) (why : StoreFault) (own : ServeFault) (a d e : Seen) → own ≡ of_store why → why ≢ store.ReadFault → CopiesFile file ⊥ ⊥ a d → OnlyRemoves ⊥ (FailsToWrite (Failed T why)) d e
+    → CopiesSo file (Failed U own) a e
+fails_back_after file T U why own a d e is unread first next =
+    copies_after file (IsErrOf (Failed U own) fault.ReadFault) (IsErrOf (Failed U own) fault.WriteFault) a d e first (fails_back file T U why own d e is unread next)
