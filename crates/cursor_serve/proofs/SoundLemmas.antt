@@ -185,7 +185,7 @@ Goes old new = (name : List ℕ) (cursor : Cursor) → finite.get old name ≡ S
 pub held_by : (number : ℕ) (cursors : Cursors) (name : List ℕ) (cursor : Cursor) → finite.get cursors name ≡ Some cursor → has_number number cursor.lists ≡ true → is_held number cursors ≡ true
 held_by number cursors name cursor got has = found_any (λ c. has_number number c.lists) (finite.entries cursors) name cursor (sym (finite.get-entries cursors name) ∙ got) has
 
-awaited_by : (number : ℕ) (cursors : Cursors) (name : List ℕ) (cursor : Cursor) → finite.get cursors name ≡ Some cursor → has_number number (drop cursor.answered cursor.lists) ≡ true → is_awaited number cursors ≡ true
+pub awaited_by : (number : ℕ) (cursors : Cursors) (name : List ℕ) (cursor : Cursor) → finite.get cursors name ≡ Some cursor → has_number number (drop cursor.answered cursor.lists) ≡ true → is_awaited number cursors ≡ true
 awaited_by number cursors name cursor got has = found_any (λ c. has_number number (drop c.answered c.lists)) (finite.entries cursors) name cursor (sym (finite.get-entries cursors name) ∙ got) has
 
 held_still : (number : ℕ) (old new : Cursors) → Goes old new → is_held number old ≡ true → is_held number new ≡ true
