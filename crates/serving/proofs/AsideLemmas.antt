@@ -249,27 +249,27 @@ module _ (table : Table) (files : Files) (texts : Texts) (m : Machine) (pool : P
 
 -- the files with a copy, if there is one
 abbrev mid_of : Option (List ℕ) → List ℕ → Files → Files
-mid_of None file files = files
-mid_of (Some k) file files = finite.insert files k (bytes_of (Some files) file)
+mid_of None source files = files
+mid_of (Some k) source files = finite.insert files k (bytes_of (Some files) source)
 
-copy_told : (kept : Option (List ℕ)) (file : List ℕ) (files : Files) → with_copy kept file (Some files) ≡ Some (mid_of kept file files)
-copy_told None file files = refl
-copy_told (Some k) file files = refl
+copy_told : (kept : Option (List ℕ)) (source : List ℕ) (files : Files) → with_copy kept source (Some files) ≡ Some (mid_of kept source files)
+copy_told None source files = refl
+copy_told (Some k) source files = refl
 
-pub copy_none : (kept : Option (List ℕ)) (file : List ℕ) → with_copy kept file None ≡ None
-copy_none None file = refl
-copy_none (Some k) file = refl
+pub copy_none : (kept : Option (List ℕ)) (source : List ℕ) → with_copy kept source None ≡ None
+copy_none None source = refl
+copy_none (Some k) source = refl
 
-mid_other : (b : Bool) (name : List ℕ) (line : ℕ) (file : List ℕ) (files : Files) (f : List ℕ) → f ≢ kept_name name line → finite.get (mid_of (kept_if b name line) file files) f ≡ finite.get files f
-mid_other false name line file files f ne = refl
-mid_other true name line file files f ne =
-    finite.get-insert nat_list_cmp_total files (kept_name name line) (bytes_of (Some files) file) f
-    ∙ ap (λ b. cond b (Some (bytes_of (Some files) file)) (finite.get files f)) (differ f (kept_name name line) ne)
+mid_other : (b : Bool) (name : List ℕ) (line : ℕ) (source : List ℕ) (files : Files) (f : List ℕ) → f ≢ kept_name name line → finite.get (mid_of (kept_if b name line) source files) f ≡ finite.get files f
+mid_other false name line source files f ne = refl
+mid_other true name line source files f ne =
+    finite.get-insert nat_list_cmp_total files (kept_name name line) (bytes_of (Some files) source) f
+    ∙ ap (λ b. cond b (Some (bytes_of (Some files) source)) (finite.get files f)) (differ f (kept_name name line) ne)
 
-mid_copy : (name : List ℕ) (line : ℕ) (file : List ℕ) (files : Files) → finite.get (mid_of (kept_if true name line) file files) (kept_name name line) ≡ Some (bytes_of (Some files) file)
-mid_copy name line file files =
-    finite.get-insert nat_list_cmp_total files (kept_name name line) (bytes_of (Some files) file) (kept_name name line)
-    ∙ ap (λ b. cond b (Some (bytes_of (Some files) file)) (finite.get files (kept_name name line))) (itself (kept_name name line))
+mid_copy : (name : List ℕ) (line : ℕ) (source : List ℕ) (files : Files) → finite.get (mid_of (kept_if true name line) source files) (kept_name name line) ≡ Some (bytes_of (Some files) source)
+mid_copy name line source files =
+    finite.get-insert nat_list_cmp_total files (kept_name name line) (bytes_of (Some files) source) (kept_name name line)
+    ∙ ap (λ b. cond b (Some (bytes_of (Some files) source)) (finite.get files (kept_name name line))) (itself (kept_name name line))
 
 file_not_kept : (name other : List ℕ) (line : ℕ) → file_of name ≢ kept_name other line
 file_not_kept name other line e = live_name name (subst IsKeptName (sym e) (named_kept other line))
@@ -534,10 +534,10 @@ taken_back files k bytes none =
     by q true e = sym (ap (finite.get files) (tied q k e) ∙ none)
     by q false e = refl
 
-pub copy_gone : (b : Bool) (name : List ℕ) (line : ℕ) (file : List ℕ) (held : Option Files) → Lacks held (kept_name name line) → without_name (kept_if b name line) (with_copy (kept_if b name line) file held) ≡ held
-copy_gone false name line file held lacks = refl
-copy_gone true name line file None lacks = refl
-copy_gone true name line file (Some files) lacks = ap Some (taken_back files (kept_name name line) (bytes_of (Some files) file) lacks)
+pub copy_gone : (b : Bool) (name : List ℕ) (line : ℕ) (source : List ℕ) (held : Option Files) → Lacks held (kept_name name line) → without_name (kept_if b name line) (with_copy (kept_if b name line) source held) ≡ held
+copy_gone false name line source held lacks = refl
+copy_gone true name line source None lacks = refl
+copy_gone true name line source (Some files) lacks = ap Some (taken_back files (kept_name name line) (bytes_of (Some files) source) lacks)
 
 pub no_place : (table : Table) (pool : Pool) (ds : List Cursor) (name : List ℕ) (line : ℕ) (rows : List (List Value)) → AreCursors pool ds → (kept : Option (List ℕ)) (b : Bool) → kept ≡ kept_if b name line
     → (held between new : Option Files) → between ≡ with_copy kept (file_of name) held → HasSegment between name → trees_fit table rows ≡ false → new ≡ without_name kept between → Lacks held (kept_name name line)

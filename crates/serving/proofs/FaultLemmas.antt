@@ -1,5 +1,5 @@
 -- Which faults a call of cursors may answer, by those of the calls below it.
-use Rattle.std.proofs.Common.{◌≡◌, ◌⊎◌, inl, inr, sym, ap, subst}
+use Rattle.std.proofs.Common.{◌≡◌, ◌∙◌, ◌⊎◌, inl, inr, sym, ap, subst}
 use Rattle.sql_reply.specs.declared.fault.SqlFault.TheVariants as sql
 use Rattle.query_executor.specs.declared.fault.ExecutorFault.{ExecutorFault}
 use Rattle.query_executor.specs.declared.fault.ExecutorFault.TheVariants as executor

@@ -1,5 +1,5 @@
 -- A list is live no longer, as the machine has it: where rows stand then, and that what is left stands for the machine.
-use Rattle.std.proofs.Common.{◌≡◌, ◌≢◌, ◌∙◌, ◌+◌, ◌<◌, ◌⊎◌, ◌||◌, inl, inr, ℕ, zero, suc, Bool, true, false, cond, nat_eq, List, [], ◌∷◌, ◌++◌, append_assoc, drop, filter, map, Option, Some, None, refl, sym, ap, subst, is_some, option_map, unwrap_or}
+use Rattle.std.proofs.Common.{◌≡◌, ◌≢◌, ◌∙◌, ◌+◌, ◌<◌, ◌⊎◌, ◌||◌, inl, inr, ℕ, zero, suc, Bool, true, false, cond, nat_eq, List, [], ◌∷◌, ◌++◌, drop, filter, map, Option, Some, None, refl, sym, ap, subst, is_some, option_map, unwrap_or}
 use Rattle.std.specs.Prelude.{codes}
 use Rattle.std.specs.Fmt.{decimal}
 use Rattle.std.specs.FinMap as finite
@@ -33,10 +33,7 @@ use Rattle.serving.proofs.GoneLemmas.{any_joined}
 -- ---- names
 
 pub named_kept : (name : List ℕ) (line : ℕ) → IsKeptName (kept_name name line)
-named_kept name line = (
-  name ++ (codes "." ++ decimal line),
-  sym (append_assoc name (codes "." ++ decimal line) (codes ".kept") ∙ ap (λ l. name ++ l) (append_assoc (codes ".") (decimal line) (codes ".kept"))),
-)
+named_kept name line = (name ++ codes "." ++ decimal line, refl)
 
 pub file_one : (a b : List ℕ) → file_of a ≡ file_of b → a ≡ b
 file_one a b e = sym (stem_back a) ∙ ap stem e ∙ stem_back b
@@ -235,11 +232,11 @@ module _ (table : Table) (files left : Files) (texts : Texts) (m : Machine) (old
           never false = refl
 
           unlike : (a b : ℕ) → a ≢ b → nat_eq a b ≡ false
-          unlike a b ne = by (nat_eq a b) refl
+          unlike a b ne = either (nat_eq a b) refl
             where
-              by : (c : Bool) → nat_eq a b ≡ c → c ≡ false
-              by true e = absurd (ne (eqb-true a b e))
-              by false e = refl
+              either : (c : Bool) → nat_eq a b ≡ c → c ≡ false
+              either true e = absurd (ne (eqb-true a b e))
+              either false e = refl
       by true live true is =
           let same : x.name ≡ name = tied x.name name is in
           let e : n ≡ version.number = number_live table files texts m olds stands name version got n (finite.get m.live x.name) (ap (finite.get m.live) same ∙ got) live in

@@ -1,21 +1,21 @@
 mod GatherLemmas
 mod PoolLemmas
 mod AnswerLemmas
-mod StandLemmas
+pub mod StandLemmas
 mod StoredLemmas
-mod PlaceLemmas
+pub mod PlaceLemmas
 mod MovedLemmas
 mod StepLemmas
-mod OpenLemmas
-mod OpenedLemmas
+pub mod OpenLemmas
+pub mod OpenedLemmas
 mod OwnerLemmas
 mod NewLemmas
 mod FileLemmas
-mod CloseLemmas
-mod GoneLemmas
+pub mod CloseLemmas
+pub mod GoneLemmas
 mod ClosedLemmas
 mod CallLemmas
 mod FaultLemmas
 mod ReadLemmas
-mod LeavingLemmas
+pub mod LeavingLemmas
 mod AsideLemmas

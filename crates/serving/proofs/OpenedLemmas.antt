@@ -62,7 +62,7 @@ names_kept : (pool : Pool) (ds : List Cursor) → map (λ k. k.name) (cursors_in
 names_kept pool [] = refl
 names_kept pool (d ∷ ds) = ap (λ l. d.name ∷ l) (names_kept pool ds)
 
-cursors_counted : (m : Machine) (pool : Pool) (ds : List Cursor) → AreCursors pool ds → ((q : List ℕ) → BothKept m (finite.get m.cursors q) (kept_under q (cursors_in pool ds))) → finite.len m.cursors ≡ length ds
+pub cursors_counted : (m : Machine) (pool : Pool) (ds : List Cursor) → AreCursors pool ds → ((q : List ℕ) → BothKept m (finite.get m.cursors q) (kept_under q (cursors_in pool ds))) → finite.len m.cursors ≡ length ds
 cursors_counted m pool ds all both =
     let names : List (List ℕ) = map (λ (d : Cursor). d.name) ds in
     let keys : List (List ℕ) = finite.keys m.cursors in

@@ -42,6 +42,11 @@ module _ (query : BoundQuery) (table : Table) (stored : List Stored) (T U : Type
     reads_of_fault = each_as (ReadsPlanned query table true) (ReadsPlanned query table false) table a.held stored (length stored) a.log b.log (planned_less query table) p.reads;
   }
 
+  -- whatever comes after all was read
+  pub reads_whole : (x : T) (r : Result U ServeFault) → PassReads query table stored a b (Done {E = ExecutorFault} x) → ReadsOf query table stored a b r
+  reads_whole x (Ok y) p = reads_done x y p
+  reads_whole x (Err why) p = reads_lacking x why p
+
 -- with none left nothing is read
 each_none : (P : Stored → List (List Value) → List Entry → Type 0) (table : Table) (held : Option Files) (old new : Option (List Entry)) → LogsEach P table held [] 0 old new
 each_none P table None old new before entries is now = tt
@@ -60,7 +65,7 @@ reads_none query table stored a U y is = subst (λ stored. ReadsOf query table s
 take_none : (k : ℕ) (names : List (List ℕ)) → names ≡ [] → take k names ≡ []
 take_none k names is = ap (take k) is ∙ by k
   where
-    by : (k : ℕ) → take k [] ≡ []
+    by : (k : ℕ) → take {A = List ℕ} k [] ≡ []
     by zero = refl
     by (suc k) = refl
 

@@ -1,6 +1,6 @@
 //! A segment goes while cursors are open that were opened over it: its file is kept where one of
 //! them has still to answer it, and from then on they have its rows there.
-ghost use Rattle.std.specs.Prelude.{◌≡◌, ◌⊎◌, ◌++◌, ◌∷◌, [], IfOk, IfSome, IsErrOf, OnErr, OnOk, drop, length, map};
+ghost use Rattle.std.specs.Prelude.{◌≡◌, ◌≢◌, ◌⊎◌, true, false, ◌++◌, ◌∷◌, [], IfOk, IfSome, IsErrOf, OnErr, OnOk, drop, length, map};
 ghost use Rattle.std.specs.List.{AllByRecursion};
 ghost use Rattle.outside.specs.Seen.{seen};
 ghost use Rattle.segment_file.specs.Names.{file_of};
@@ -56,6 +56,17 @@ pub(crate) fn set_aside<D: Depot>(
     };
     let files = all_aside(alloc, cursors, &file, &kept)?;
     Ok(Aside { kept, files })
+}
+
+/// Whether rows are refused since a star-tree of them is too large.
+pub(crate) fn is_too_large(fault: StoreFault) -> bool
+    ensures yes { result ≡ true → fault ≡ StoreFault.TooLarge }
+    ensures no { result ≡ false → fault ≢ StoreFault.TooLarge }
+{
+    match fault {
+        StoreFault::TooLarge => true,
+        _ => false,
+    }
 }
 
 /// Takes the kept file away again, if there is one.

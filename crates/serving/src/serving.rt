@@ -1,5 +1,5 @@
 //! Cursors that are open, and the pool that their groups are in.
-ghost use Rattle.std.specs.Prelude.{◌≡◌, ◌+◌, ℕ, [], IfErr, IfOk, IsErrOf, None, OnOk, Some, is_some, length, slice_get};
+ghost use Rattle.std.specs.Prelude.{◌≡◌, ◌<◌, ◌+◌, ℕ, [], IfErr, IfOk, IsErrOf, None, OnOk, Some, is_some, length, slice_get};
 ghost use Rattle.std.specs.List.{All, AllByRecursion};
 ghost use Rattle.outside.specs.Files.{Lacks};
 ghost use Rattle.outside.specs.Seen.{OnlyReads, seen};
@@ -22,7 +22,7 @@ ghost use Rattle.serving.specs.declared.cursor.Cursor.{Cursor as ACursor};
 
 use crate::ServeFault;
 use crate::answering::answer_to;
-use crate::aside::{let_go, put_files, set_aside};
+use crate::aside::{is_too_large, let_go, put_files, set_aside};
 use crate::closing::release;
 use crate::cursor::Cursor;
 use crate::opening::{cursor_pool, new_cursor};
@@ -33,7 +33,7 @@ use sql_reply::answer;
 use std::alloc::Global;
 use table_schema::{BoundQuery, Table};
 use table_store::{
-    StoreFault, drop_segment, drop_stands_law, kept_idle_law, replace_segment, replace_stands_law,
+    drop_segment, drop_stands_law, kept_idle_law, replace_segment, replace_stands_law,
     segment_names,
 };
 use values::Columns;
@@ -211,6 +211,8 @@ impl Serving {
         ensures cursors { AreCursors self.new.pool self.new.cursors.items }
         ensures over { (table : ATable) → AllByRecursion (IsOver table) self.old.cursors.items
             → AllByRecursion (IsOver table) self.new.cursors.items }
+        ensures fewer { OnOk result
+            (length self.new.cursors.items < length self.old.cursors.items) }
         ensures loses { LosesKept (D.held depot.old) (D.held depot.new) }
         ensures only_removes { OnlyRemoves ⊥ (IsErrOf result ServeFault.WriteFault)
             (seen D.Shelf depot.old) (seen D.Shelf depot.new) }
@@ -316,11 +318,15 @@ impl Serving {
         };
         match replace_segment(alloc, depot, table, name, columns) {
             Ok(()) => {}
-            Err(StoreFault::TooLarge) => match let_go(alloc, depot, &made.kept) {
-                Ok(()) => return Err(ServeFault::TooLarge),
-                Err(fault) => return Err(ServeFault::from(fault)),
-            },
-            Err(fault) => return Err(ServeFault::from(fault)),
+            Err(fault) => {
+                if is_too_large(fault) {
+                    return match let_go(alloc, depot, &made.kept) {
+                        Ok(()) => Err(ServeFault::TooLarge),
+                        Err(fault) => Err(ServeFault::from(fault)),
+                    };
+                }
+                return Err(ServeFault::from(fault));
+            }
         }
         put_files(&mut self.cursors, made.files);
         Ok(())

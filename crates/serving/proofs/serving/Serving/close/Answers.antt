@@ -6,6 +6,7 @@ use Rattle.serving.specs.Closed.{AreGone}
 use Rattle.serving.specs.Kept.{AreCursors, IsOver, cursors_in, place_under}
 use Rattle.serving.specs.declared.cursor.Cursor.{Cursor}
 use Rattle.serving.proofs.ClosedLemmas.{closes_fault, closes_none, closes_out, cursors_out, got_at, over_out, place_named, write_or_memory}
+use Rattle.serving.proofs.GoneLemmas.{gone_kept}
 use Rattle.serving.proofs.PlaceLemmas.{AtPlace, IsOther, at_place, place_within}
 use Rattle.serving.proofs.serving.Serving.close.Goals as goal
 
@@ -77,3 +78,8 @@ returns-clause-cursors g c =
 pub returns-clause-over : goal.returns-clause-over
 returns-clause-over g c = λ table all.
     subst (AllByRecursion (IsOver table)) (sym c.remove-groups.ensures.items) (over_out (IsOver table) c.args.self.now.cursors.items c.in-Some.at all)
+
+pub returns-clause-loses : goal.returns-clause-loses
+returns-clause-loses g c =
+    let gone = c.in-Ok.ensures.gone in
+    (gone.0, gone_kept c.in-Some.at c.as_slice-2.result.now gone.0 gone.1.each, gone.2)

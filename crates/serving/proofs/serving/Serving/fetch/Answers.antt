@@ -1,3 +1,7 @@
+use Rattle.serving.proofs.ReadLemmas.{own_is, reads_done, reads_failed, reads_whole}
+use Rattle.query_executor.proofs.EndLemmas.{Done, Failed}
+use Rattle.query_executor.specs.declared.fault.ExecutorFault.{ExecutorFault}
+use Rattle.query_executor.specs.Passes.{PassReads}
 use Rattle.std.proofs.Common.{◌≡◌, ◌∙◌, ◌+◌, ◌-◌, ◌<◌, ◌≤◌, ℕ, List, Some, Ok, Err, get_or, length, set, refl, sym, ap, subst, arith}
 use Rattle.std.specs.List.{AllByRecursion}
 use Rattle.outside.specs.Seen.{Seen, seen}
@@ -6,7 +10,7 @@ use Rattle.segment_file.specs.declared.part.Part.{Part}
 use Rattle.query_executor.specs.declared.fault.ExecutorFault.TheVariants as executor
 use Rattle.cursor_serve.specs.Machine.{fetched}
 use Rattle.serving.specs.Answered.{AnswersRows, IsMoved, IsOverfull, next_stored}
-use Rattle.serving.specs.Calls.{Serves}
+use Rattle.serving.specs.Calls.{ReadsOf, Serves}
 use Rattle.serving.specs.Faults.{of_query}
 use Rattle.serving.specs.Kept.{AreCursors, IsCursorIn, IsOver, KeepsAside, cursor_in, cursors_in, gatherer, place_under}
 use Rattle.serving.specs.declared.cursor.Cursor.{Cursor}
@@ -235,3 +239,45 @@ returns-clause-serves g c =
     (subst (λ n. AnswersRows c.args.table.now held (next_stored own n) pool new own e) to c.in-Ok.ensures.answered) (subst (λ n. IsMoved n own e) to m) c.in-Ok.ensures.stays most
     (puts_moved pool new own e c.in-Ok.ensures.keeps name ds at place placed c.requires.cursors.each m.name) c.in_ok-answer.ensures in
     subst (λ h. Serves (fetched name) c.args.table.now (cursors_in pool ds) (cursors_in new (set ds at e)) held h (Ok c.in_ok-answer.field-0)) (sym c.in-Ok.ensures.passes.only_reads.held) serves
+
+pub returns-in-Err-clause-reads : goal.returns-in-Err-clause-reads
+returns-in-Err-clause-reads g c = λ other it found got.
+    let ds : List Cursor = c.args.self.now.cursors.items in
+    let name = c.args.cursor.now in
+    let own : Cursor = c.index_mut-own.result.now in
+    let at : ℕ = c.in-Some.at in
+    let place : place_under name ds ≡ Some at = sym (c.in-Some.ensures ∙ ap (place_under name) c.as_slice.ensures.value) in
+    let lt : at < length ds = place_within name ds at place in
+    let is : get_or ds at own ≡ own = sym c.index_mut-own.ensures.value in
+    let a : Seen = seen g.S.Shelf c.args.shelf.now in
+    let b : Seen = seen g.S.Shelf c.answer_to.new.shelf in
+    subst (λ (o : Cursor). ReadsOf o.query c.args.table.now (next_stored o (length o.segments)) a b (Failed (List ℕ) c.from.result)) (own_is ds name at own other it place is found got)
+    (reads_failed own.query c.args.table.now (next_stored own (length own.segments)) (Unit {0}) (List ℕ) a b c.in-Err.fault c.from.result (subst (λ n. PassReads own.query c.args.table.now (next_stored own n) a b (Failed (Unit {0}) c.in-Err.fault)) c.len-to.ensures c.in-Err.ensures.passes))
+
+pub returns-in_err-answer-clause-reads : goal.returns-in_err-answer-clause-reads
+returns-in_err-answer-clause-reads g c = λ other it found got.
+    let ds : List Cursor = c.args.self.now.cursors.items in
+    let name = c.args.cursor.now in
+    let own : Cursor = c.index_mut-own.result.now in
+    let at : ℕ = c.in-Some.at in
+    let place : place_under name ds ≡ Some at = sym (c.in-Some.ensures ∙ ap (place_under name) c.as_slice.ensures.value) in
+    let lt : at < length ds = place_within name ds at place in
+    let is : get_or ds at own ≡ own = sym c.index_mut-own.ensures.value in
+    let a : Seen = seen g.S.Shelf c.args.shelf.now in
+    let b : Seen = seen g.S.Shelf c.answer_to.new.shelf in
+    subst (λ (o : Cursor). ReadsOf o.query c.args.table.now (next_stored o (length o.segments)) a b c.from_residual.result) (own_is ds name at own other it place is found got)
+    (reads_whole own.query c.args.table.now (next_stored own (length own.segments)) (Unit {0}) (List ℕ) a b tt c.from_residual.result (subst (λ n. PassReads own.query c.args.table.now (next_stored own n) a b (Done {E = ExecutorFault} (tt {0}))) c.len-to.ensures c.in-Ok.ensures.passes))
+
+pub returns-clause-reads : goal.returns-clause-reads
+returns-clause-reads g c = λ other it found got.
+    let ds : List Cursor = c.args.self.now.cursors.items in
+    let name = c.args.cursor.now in
+    let own : Cursor = c.index_mut-own.result.now in
+    let at : ℕ = c.in-Some.at in
+    let place : place_under name ds ≡ Some at = sym (c.in-Some.ensures ∙ ap (place_under name) c.as_slice.ensures.value) in
+    let lt : at < length ds = place_within name ds at place in
+    let is : get_or ds at own ≡ own = sym c.index_mut-own.ensures.value in
+    let a : Seen = seen g.S.Shelf c.args.shelf.now in
+    let b : Seen = seen g.S.Shelf c.answer_to.new.shelf in
+    subst (λ (o : Cursor). ReadsOf o.query c.args.table.now (next_stored o (length o.segments)) a b (Done {E = ServeFault} c.in_ok-answer.field-0)) (own_is ds name at own other it place is found got)
+    (reads_done own.query c.args.table.now (next_stored own (length own.segments)) (Unit {0}) (List ℕ) a b tt c.in_ok-answer.field-0 (subst (λ n. PassReads own.query c.args.table.now (next_stored own n) a b (Done {E = ExecutorFault} (tt {0}))) c.len-to.ensures c.in-Ok.ensures.passes))

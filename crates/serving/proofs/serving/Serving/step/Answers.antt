@@ -1,3 +1,5 @@
+use Rattle.serving.proofs.ReadLemmas.{none_next, own_is, reads_done, reads_failed, reads_none}
+use Rattle.query_executor.proofs.EndLemmas.{Done, Failed}
 use Rattle.std.proofs.Common.{◌≡◌, ◌∙◌, ◌+◌, ◌-◌, ◌<◌, ◌≤◌, ℕ, List, Some, Ok, Err, get_or, length, set, refl, sym, ap, subst, arith}
 use Rattle.std.specs.List.{AllByRecursion}
 use Rattle.outside.specs.Seen.{Seen, seen}
@@ -6,7 +8,7 @@ use Rattle.segment_file.specs.declared.part.Part.{Part}
 use Rattle.query_executor.specs.declared.fault.ExecutorFault.TheVariants as executor
 use Rattle.cursor_serve.specs.Machine.{stepped}
 use Rattle.serving.specs.Answered.{IsMoved, IsOverfull, next_stored}
-use Rattle.serving.specs.Calls.{Serves}
+use Rattle.serving.specs.Calls.{ReadsOf, Serves}
 use Rattle.serving.specs.Faults.{of_query}
 use Rattle.serving.specs.Kept.{AreCursors, IsCursorIn, IsOver, KeepsAside, cursor_in, cursors_in, gatherer, place_under}
 use Rattle.serving.specs.declared.cursor.Cursor.{Cursor}
@@ -213,3 +215,45 @@ returns-in-Ok-clause-over g c =
     let m : IsMoved (own.answered + 1) own e = c.in-Ok.ensures.moved in
     let placed : AtPlace (IsOther own) at own ds = at_place ds at own own lt is c.requires.cursors.owners in
     each_set (IsOver c.args.table.now) ds at e c.requires.over (over_moved c.args.table.now (own.answered + 1) own e m (each_at (IsOver c.args.table.now) ds at own own lt is c.requires.over))
+
+pub returns-then-left-eq0-clause-reads : goal.returns-then-left-eq0-clause-reads
+returns-then-left-eq0-clause-reads g c = λ other it found got.
+    let ds : List Cursor = c.args.self.now.cursors.items in
+    let name = c.args.cursor.now in
+    let own : Cursor = c.index_mut-own.result.now in
+    let at : ℕ = c.in-Some.at in
+    let place : place_under name ds ≡ Some at = sym (c.in-Some.ensures ∙ ap (place_under name) c.as_slice.ensures.value) in
+    let lt : at < length ds = place_within name ds at place in
+    let is : get_or ds at own ≡ own = sym c.index_mut-own.ensures.value in
+    let a : Seen = seen g.S.Shelf c.args.shelf.now in
+    let b : Seen = a in
+    subst (λ (o : Cursor). ReadsOf o.query c.args.table.now (next_stored o (o.answered + 1)) a b (Done {E = ServeFault} 0)) (own_is ds name at own other it place is found got)
+    (reads_none own.query c.args.table.now (next_stored own (own.answered + 1)) a ℕ 0 (none_next own (own.answered + 1) (let n = c.if-left-eq0.true in let l = c.len.ensures in omega (arith, n, l))))
+
+pub returns-in-Ok-clause-reads : goal.returns-in-Ok-clause-reads
+returns-in-Ok-clause-reads g c = λ other it found got.
+    let ds : List Cursor = c.args.self.now.cursors.items in
+    let name = c.args.cursor.now in
+    let own : Cursor = c.index_mut-own.result.now in
+    let at : ℕ = c.in-Some.at in
+    let place : place_under name ds ≡ Some at = sym (c.in-Some.ensures ∙ ap (place_under name) c.as_slice.ensures.value) in
+    let lt : at < length ds = place_within name ds at place in
+    let is : get_or ds at own ≡ own = sym c.index_mut-own.ensures.value in
+    let a : Seen = seen g.S.Shelf c.args.shelf.now in
+    let b : Seen = seen g.S.Shelf c.answer_to.new.shelf in
+    subst (λ (o : Cursor). ReadsOf o.query c.args.table.now (next_stored o (o.answered + 1)) a b (Done {E = ServeFault} (c.len.result - own.answered - 1))) (own_is ds name at own other it place is found got)
+    (reads_done own.query c.args.table.now (next_stored own (own.answered + 1)) (Unit {0}) ℕ a b tt (c.len.result - own.answered - 1) c.in-Ok.ensures.passes)
+
+pub returns-in-Err-clause-reads : goal.returns-in-Err-clause-reads
+returns-in-Err-clause-reads g c = λ other it found got.
+    let ds : List Cursor = c.args.self.now.cursors.items in
+    let name = c.args.cursor.now in
+    let own : Cursor = c.index_mut-own.result.now in
+    let at : ℕ = c.in-Some.at in
+    let place : place_under name ds ≡ Some at = sym (c.in-Some.ensures ∙ ap (place_under name) c.as_slice.ensures.value) in
+    let lt : at < length ds = place_within name ds at place in
+    let is : get_or ds at own ≡ own = sym c.index_mut-own.ensures.value in
+    let a : Seen = seen g.S.Shelf c.args.shelf.now in
+    let b : Seen = seen g.S.Shelf c.answer_to.new.shelf in
+    subst (λ (o : Cursor). ReadsOf o.query c.args.table.now (next_stored o (o.answered + 1)) a b (Failed ℕ c.from.result)) (own_is ds name at own other it place is found got)
+    (reads_failed own.query c.args.table.now (next_stored own (own.answered + 1)) (Unit {0}) ℕ a b c.in-Err.fault c.from.result c.in-Err.ensures.passes)
