@@ -320,10 +320,10 @@ impl Serving {
             Ok(()) => {}
             Err(fault) => {
                 if is_too_large(fault) {
-                    return match let_go(alloc, depot, &made.kept) {
-                        Ok(()) => Err(ServeFault::TooLarge),
-                        Err(fault) => Err(ServeFault::from(fault)),
-                    };
+                    match let_go(alloc, depot, &made.kept) {
+                        Ok(()) => return Err(ServeFault::TooLarge),
+                        Err(fault) => return Err(ServeFault::from(fault)),
+                    }
                 }
                 return Err(ServeFault::from(fault));
             }

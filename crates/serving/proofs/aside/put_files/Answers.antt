@@ -1,4 +1,4 @@
-use Rattle.std.proofs.Common.{◌≡◌, ◌∙◌, ◌+◌, ◌++◌, ◌∷◌, ◌<◌, ◌≤◌, [], ℕ, List, Option, get_or, length, length-append, length-set, set, sym, ap, subst, arith}
+use Rattle.std.proofs.Common.{rules, vec_len, ◌≡◌, ◌∙◌, ◌+◌, ◌++◌, ◌∷◌, ◌<◌, ◌≤◌, [], ℕ, List, Option, get_or, length, length-append, length-set, set, sym, ap, subst, arith}
 use Rattle.std.specs.Global.{Vec}
 use Rattle.serving.specs.Aside.{with_files}
 use Rattle.serving.specs.declared.cursor.Cursor.{Cursor}
@@ -11,7 +11,8 @@ cursors-preserved c =
     let own : Vec (Option (List ℕ)) = c.in-Some.own in
     let cs : List Cursor = c.cursors.cursors.items in
     let it : Cursor = c.index_mut.result.now in
-    let at : c.len.result ≡ length fs = c.len.ensures in
+    let len : vec_len c.pop.new.self ≡ length fs = search rules in
+    let at : c.len.result ≡ length fs = c.len.ensures ∙ len in
     let split : c.cursors.files.items ≡ fs ++ own ∷ [] = c.in-Some.ensures.items in
     let long : length c.cursors.files.items ≡ length fs + 1 = ap length split ∙ length-append fs (own ∷ []) in
     let le : length c.cursors.files.items ≤ length cs = c.cursors.invariant.long in

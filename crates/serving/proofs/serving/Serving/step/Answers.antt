@@ -227,8 +227,9 @@ returns-then-left-eq0-clause-reads g c = λ other it found got.
     let is : get_or ds at own ≡ own = sym c.index_mut-own.ensures.value in
     let a : Seen = seen g.S.Shelf c.args.shelf.now in
     let b : Seen = a in
-    subst (λ (o : Cursor). ReadsOf o.query c.args.table.now (next_stored o (o.answered + 1)) a b (Done {E = ServeFault} 0)) (own_is ds name at own other it place is found got)
-    (reads_none own.query c.args.table.now (next_stored own (own.answered + 1)) a ℕ 0 (none_next own (own.answered + 1) (let n = c.if-left-eq0.true in let l = c.len.ensures in omega (arith, n, l))))
+    let none : ℕ = 0 in
+    subst (λ (o : Cursor). ReadsOf o.query c.args.table.now (next_stored o (o.answered + 1)) a b (Done {E = ServeFault} none)) (own_is ds name at own other it place is found got)
+    (reads_none own.query c.args.table.now (next_stored own (own.answered + 1)) a ℕ none (none_next own (own.answered + 1) (let n = c.if-left-eq0.true in let l = c.len.ensures in omega (arith, n, l))))
 
 pub returns-in-Ok-clause-reads : goal.returns-in-Ok-clause-reads
 returns-in-Ok-clause-reads g c = λ other it found got.
