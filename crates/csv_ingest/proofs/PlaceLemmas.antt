@@ -2,7 +2,7 @@
 use Rattle.std.proofs.Common.{◌≡◌, ◌∙◌, ◌<◌, ◌≤◌, ◌+◌, ◌-◌, ◌*◌, ◌/◌, ◌%◌, ◌^◌, ◌++◌, ℕ, suc, Bool, true, false, not, cond, List, [], ◌∷◌, length, map, take, drop, get_or, refl, sym, ap, ap₂, subst, arith, bit_and, append-nil, append_assoc, map-id, take-add, Fits, w8}
 use Rattle.std.proofs.lemmas.Nat.{and_le_r, and_mod, and_shr}
 use Rattle.std.proofs.lemmas.Simd.{trailing_mask_l, map-map, mask_l-mod, length-chunk, get_or-chunk}
-use Rattle.std.proofs.lemmas.List.{length-drop, drop-drop, length-map, length-take, take-append-drop, take_more}
+use Rattle.std.proofs.lemmas.List.{length-drop, length-map, length-take, take-append-drop, take_more}
 use Rattle.std.proofs.lemmas.Bool.{agree_below, agree_below_at}
 use lib.Lanes.{chunk, zip2, top}
 use lib.Count.{count_trailing_zeros}

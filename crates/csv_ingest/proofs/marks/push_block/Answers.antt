@@ -1,4 +1,4 @@
-use Rattle.std.proofs.Common.{◌≡◌, ◌<◌, ◌+◌, ◌-◌, ◌∷◌, ◌++◌, [], take, drop, bit_and, refl, sym, subst, arith}
+use Rattle.std.proofs.Common.{◌≡◌, ◌<◌, ◌-◌, take, drop, bit_and, refl, sym, subst, arith}
 use lib.Count.{count_trailing_zeros}
 use Rattle.csv_ingest.specs.Places.{is_separator}
 use Rattle.csv_ingest.proofs.PlaceLemmas.{Taken, all_taken, block_length, less_left, none_taken, one_taken}
