@@ -2,6 +2,7 @@
 use Rattle.std.proofs.Common.{◌≡◌, ◌∙◌, ◌<◌, ◌≤◌, ◌+◌, ◌-◌, ◌++◌, ◌∷◌, [], ℕ, Bool, true, false, cond, nat_eq, append-nil, subst, zero, suc, List, length, get_or, take, drop, ap, sym, arith, inl, inr}
 use Rattle.std.proofs.lemmas.Bool.{cases_lt, eqb-true}
 use Rattle.std.proofs.lemmas.List.{get_or-drop, get_or-take, get_or_append_left, get_or_push, length-drop, length-take-le, length_push}
+use Rattle.std.specs.Bool.{OnTrue}
 use Rattle.value_ids.specs.Coding.{AreBelow}
 use Rattle.coded_columns.specs.Packing.{AreAfter, Ascend}
 
@@ -29,8 +30,9 @@ follow-all places last up many ends = λ k lt.
       here,
     )
 
-pub follow-told : (places : List ℕ) (last : ℕ) (told : Bool) → told ≡ nat_eq (get_or places last 0) (get_or places 0 0 + last) → Ascend places → length places ≡ last + 1 → told ≡ true → AreAfter places (get_or places 0 0)
-follow-told places last told is up many yes = follow-all places last up many (eqb-true (get_or places last 0) (get_or places 0 0 + last) (sym is ∙ yes))
+pub follow-told : (places : List ℕ) (last : ℕ) (told : Bool) → told ≡ nat_eq (get_or places last 0) (get_or places 0 0 + last) → Ascend places → length places ≡ last + 1 → OnTrue told (AreAfter places (get_or places 0 0))
+follow-told places last true is up many = follow-all places last up many (eqb-true (get_or places last 0) (get_or places 0 0 + last) (sym is))
+follow-told places last false is up many = tt
 
 pub ascend-none : Ascend []
 ascend-none = λ j k lt k_lt. absurd (omega (arith, k_lt))

@@ -1,4 +1,4 @@
-use Rattle.std.proofs.Common.{◌<◌, ℕ, List, get_or, sym, subst, arith, inl, inr}
+use Rattle.std.proofs.Common.{ℕ, List, get_or, sym, subst, arith, inl, inr}
 use Rattle.std.proofs.lemmas.Bool.{cases_eq}
 use Rattle.coded_columns.specs.Coded.{column_of}
 use Rattle.coded_columns.specs.Keys.{IsIdAt}
