@@ -16,7 +16,7 @@ pub loop-at-preserved : goal.loop-at-preserved
 loop-at-preserved c = λ row lt are.
     let columns : List ℕ = c.args.columns.now in
     let own : List Value = row_of (table_of c.args.segment.now).columns row in
-    c.in_ok-push.ensures ∙ ap (λ (l : List Value). l ++ c.in_ok-value_of.value_of ∷ []) (c.loop-at.invariant row lt are)
+    c.in_ok-push.ensures.items ∙ ap (λ (l : List Value). l ++ c.in_ok-value_of.field-0 ∷ []) (c.loop-at.invariant row lt are)
     ∙ ap (λ (v : Value). key_of (take c.loop-at.at columns) own ++ v ∷ []) (c.in_ok-value_of.ensures row lt (are.each c.loop-at.at c.loop-at-test.true))
     ∙ sym (key-next columns c.loop-at.at own c.loop-at-test.true)
 

@@ -84,6 +84,26 @@ merge_row-requires-clause-kinds c =
     let row_is : c.fill_states.new.row ≡ states_of q.aggs run = c.in_ok-fill_states.ensures ∙ row-states (length firsts) keys (passed_rows rows) q.aggs owns k holds.states c.requires.key in
     ap kinds_of row_is ∙ kinds_states q.aggs run ∙ sym c.requires.table.kinds
 
+pub merge_row-requires-clause-key : goal.merge_row-requires-clause-key
+merge_row-requires-clause-key c =
+    let q = c.args.query.now in
+    let rows = c.args.rows in
+    let segment = rows.segment.now in
+    let places : List ℕ = passed rows in
+    let firsts : List ℕ = c.args.keyed.now.firsts.items in
+    let owns = c.args.keyed.now.aggs.items in
+    let k : ℕ = c.args.key in
+    let first : c.index-first.result.now ≡ get_or firsts k 0 = c.index-first.ensures ∙ get_or_default firsts k c.index-first.result.now 0 c.requires.key in
+    let keys : List ℕ = c.requires.may.keys in
+    let holds = c.requires.may.holds in
+    let run : List (List Value) = run_of rows keys k in
+    let some : 0 < get_or firsts k 0 = omega (arith, first, c.if-first-eq0.false) in
+    let values : c.in_ok-own.own ≡ key_of q.groups (row_of (table_of segment).columns (get_or firsts k 0 - 1)) =
+    c.in_ok-own.ensures (get_or firsts k 0 - 1) ((holds.firsts k c.requires.key).within some) (subst (λ (l : List ℕ). AreIdsAt segment c.as_slice-columns.result.now (get_or firsts k 0 - 1) l) (sym c.deref.ensures.value) c.in_ok-fill_ids.ensures)
+    ∙ ap (λ (gs : List ℕ). key_of gs (row_of (table_of segment).columns (get_or firsts k 0 - 1))) c.as_slice-columns.ensures in
+    let r : IsRun q.groups c.in_ok-own.own run = key-run segment q.groups q.aggs keys places c.args.keyed.now holds k c.in_ok-own.own c.requires.key some values in
+    r.width ∙ sym c.requires.table.columns
+
 pub merge_row-requires-clause-values : goal.merge_row-requires-clause-values
 merge_row-requires-clause-values c =
     let q = c.args.query.now in
