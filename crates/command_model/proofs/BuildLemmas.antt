@@ -67,6 +67,8 @@ line_first (note.BadCsv wrong row column) e = absurd cc
 line_first (note.TooLarge what limit) e = absurd cc
 line_first (note.BadQuery wrong place) e = absurd cc
 line_first (note.TooManyGroups most) e = absurd cc
+line_first (note.CursorTaken cursor) e = absurd cc
+line_first (note.NoCursor cursor) e = absurd cc
 line_first (note.NotASegment name part) e = refl
 
 -- such a refusal tells nothing of the place
@@ -83,6 +85,8 @@ tells_first name (note.BadCsv wrong row column) e = absurd cc
 tells_first name (note.TooLarge what limit) e = absurd cc
 tells_first name (note.BadQuery wrong place) e = absurd cc
 tells_first name (note.TooManyGroups most) e = absurd cc
+tells_first name (note.CursorTaken cursor) e = absurd cc
+tells_first name (note.NoCursor cursor) e = absurd cc
 tells_first name (note.NotASegment of part) e = tt
 
 stops_place : (name : List ℕ) (held : Option Files) (why : Stop) → StopsStore TableRefuses held why → StopsPlace name held why
@@ -160,6 +164,7 @@ apart_counts counted.Rows e f = absurd cc
 apart_counts counted.Segments e f = absurd cc
 apart_counts counted.TreeBytes e f = absurd cc
 apart_counts counted.ScriptBytes e f = absurd cc
+apart_counts counted.Cursors e f = absurd cc
 
 apart : {A : Type 0} (line : Note) → rows_refuse line ≡ true → place_refuses line ≡ true → A
 apart note.BadWords e f = absurd cc
@@ -174,6 +179,8 @@ apart (note.BadCsv wrong row column) e f = absurd cc
 apart (note.TooLarge what limit) e f = apart_counts what e f
 apart (note.BadQuery wrong place) e f = absurd cc
 apart (note.TooManyGroups most) e f = absurd cc
+apart (note.CursorTaken cursor) e f = absurd cc
+apart (note.NoCursor cursor) e f = absurd cc
 apart (note.NotASegment name part) e f = absurd cc
 
 -- why the table of a store is refused, told of another line
@@ -219,6 +226,8 @@ module _ (name : List ℕ) (csv : RowSource) where
   place_caused inputs stored (note.TooLarge what limit) e tells told = absurd cc
   place_caused inputs stored (note.BadQuery wrong place) e tells told = absurd cc
   place_caused inputs stored (note.TooManyGroups most) e tells told = absurd cc
+  place_caused inputs stored (note.CursorTaken cursor) e tells told = absurd cc
+  place_caused inputs stored (note.NoCursor cursor) e tells told = absurd cc
   place_caused inputs stored (note.NotASegment of part) e tells told = told_each stored (λ files. PlaceRefuses name files (note.NotASegment of part)) (λ files. TableRefuses files (note.NotASegment of part)) (wrong_table name of part) told
 
   module _ (table : Table) where
@@ -255,6 +264,8 @@ module _ (name : List ℕ) (csv : RowSource) where
     rows_caused inputs stored (note.TooLarge what limit) e place told = found_in (note.TooLarge what limit) inputs stored place told
     rows_caused inputs stored (note.BadQuery wrong place') e place told = absurd cc
     rows_caused inputs stored (note.TooManyGroups most) e place told = absurd cc
+    rows_caused inputs stored (note.CursorTaken cursor) e place told = absurd cc
+    rows_caused inputs stored (note.NoCursor cursor) e place told = absurd cc
     rows_caused inputs stored (note.NotASegment of part) e place told = absurd cc
 
 -- ---- what is touched

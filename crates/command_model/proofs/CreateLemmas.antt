@@ -94,6 +94,8 @@ allowed_line source (note.BadCsv wrong row column) e = e
 allowed_line source (note.TooLarge what limit) e = e
 allowed_line source (note.BadQuery wrong place) e = e
 allowed_line source (note.TooManyGroups most) e = e
+allowed_line source (note.CursorTaken cursor) e = e
+allowed_line source (note.NoCursor cursor) e = e
 allowed_line source (note.NotASegment name part) e = e
 
 texts_caused : (schema settings : List ℕ) (inputs stored : Option Files) (line : Note) → texts_refuse line ≡ true → IfSome inputs (λ files. new_table schema settings files ≡ Err line) → Caused (Some (Create (TextFiles schema settings))) inputs stored line
@@ -110,6 +112,8 @@ texts_caused schema settings inputs stored (note.TooLarge counted.Segments limit
 texts_caused schema settings inputs stored (note.TooLarge what limit) e told = told
 texts_caused schema settings inputs stored (note.BadQuery wrong place) e told = absurd cc
 texts_caused schema settings inputs stored (note.TooManyGroups most) e told = absurd cc
+texts_caused schema settings inputs stored (note.CursorTaken cursor) e told = absurd cc
+texts_caused schema settings inputs stored (note.NoCursor cursor) e told = absurd cc
 texts_caused schema settings inputs stored (note.NotASegment name part) e told = absurd cc
 
 own_caused : (rows : ℕ) (inputs stored : Option Files) (line : Note) → source_refuses (GeneratedTexts rows) line ≡ true → IfSome inputs (λ files. own_table rows ≡ Err line) → Caused (Some (Create (GeneratedTexts rows))) inputs stored line
@@ -126,6 +130,8 @@ own_caused rows inputs stored (note.TooLarge counted.Segments limit) e told = ab
 own_caused rows inputs stored (note.TooLarge what limit) e told = told
 own_caused rows inputs stored (note.BadQuery wrong place) e told = absurd cc
 own_caused rows inputs stored (note.TooManyGroups most) e told = absurd cc
+own_caused rows inputs stored (note.CursorTaken cursor) e told = absurd cc
+own_caused rows inputs stored (note.NoCursor cursor) e told = absurd cc
 own_caused rows inputs stored (note.NotASegment name part) e told = absurd cc
 
 caused_line : (source : TextSource) (inputs stored : Option Files) (line : Note) → source_refuses source line ≡ true → IfSome inputs (λ files. table_from source files ≡ Err line) → Caused (Some (Create source)) inputs stored line
@@ -148,6 +154,8 @@ looked_line source old new (note.BadCsv wrong row column) e alone = tt
 looked_line source old new (note.TooLarge what limit) e alone = tt
 looked_line source old new (note.BadQuery wrong place) e alone = tt
 looked_line source old new (note.TooManyGroups most) e alone = tt
+looked_line source old new (note.CursorTaken cursor) e alone = tt
+looked_line source old new (note.NoCursor cursor) e alone = tt
 looked_line source old new (note.NotASegment name part) e alone = tt
 
 -- there is no table where there is one
@@ -254,6 +262,8 @@ module _ (source : TextSource) (inputs inputs_new depot looked depot_new : Seen)
   moved_looked (note.TooLarge what limit) is = is
   moved_looked (note.BadQuery wrong place) is = is
   moved_looked (note.TooManyGroups most) is = is
+  moved_looked (note.CursorTaken cursor) is = is
+  moved_looked (note.NoCursor cursor) is = is
   moved_looked (note.NotASegment name part) is = is
 
   moved_allowed : (answer : Answer) → IsAllowed (Some (Create source)) (Before looked) Now answer → IsAllowed (Some (Create source)) (Before depot) Now answer

@@ -186,7 +186,7 @@ zip_each f R [] (y ∷ ys) is all = absurd all
 zip_each f R (x ∷ xs) [] is all = absurd all
 zip_each f R (x ∷ xs) (y ∷ ys) is all = (λ i. is 0 (omega arith) y all.0 i ∷ zip_each f R xs ys (λ k lt. is (suc k) (omega arith)) all.1 i)
 
-none_refused : (stored : Files) → Stands stored NoTable → (line : Note) → SegmentsRefuse stored line → Refuses line ≡ list_answer NoTable
+pub none_refused : (stored : Files) → Stands stored NoTable → (line : Note) → SegmentsRefuse stored line → Refuses line ≡ list_answer NoTable
 none_refused stored stands note.BadWords h = absurd h
 none_refused stored stands (note.NoInput file) h = absurd h
 none_refused stored stands (note.BadSchema wrong path) h = absurd h
@@ -199,6 +199,8 @@ none_refused stored stands (note.BadCsv wrong row column) h = absurd h
 none_refused stored stands (note.TooLarge what limit) h = absurd h
 none_refused stored stands (note.BadQuery wrong place) h = absurd h
 none_refused stored stands (note.TooManyGroups most) h = absurd h
+none_refused stored stands (note.CursorTaken cursor) h = absurd h
+none_refused stored stands (note.NoCursor cursor) h = absurd h
 none_refused stored stands (note.NotASegment name part) (inl w) = let (bytes, got, none) = w.wrong in none_there stored stands (bytes, got)
 none_refused stored stands (note.NotASegment name part) (inr w) = let (bytes, got, is) = w.table_is in none_there stored stands (bytes, got)
 
@@ -214,7 +216,7 @@ module _ (stored : Files) (texts : state.Texts) (segments : Segments) (stands : 
       let accepted = table_stands stored texts segments w.table stands w.table_is in
       absurd (w.breaks (segment_kept_so stored texts segments w.table name stands accepted w.there).keeps)
 
-  some_refused : {A : Type 0} (line : Note) → SegmentsRefuse stored line → A
+  pub some_refused : {A : Type 0} (line : Note) → SegmentsRefuse stored line → A
   some_refused note.BadWords h = absurd h
   some_refused (note.NoInput file) h = absurd h
   some_refused (note.BadSchema wrong path) h = absurd h
@@ -227,6 +229,8 @@ module _ (stored : Files) (texts : state.Texts) (segments : Segments) (stands : 
   some_refused (note.TooLarge what limit) h = absurd h
   some_refused (note.BadQuery wrong place) h = absurd h
   some_refused (note.TooManyGroups most) h = absurd h
+  some_refused (note.CursorTaken cursor) h = absurd h
+  some_refused (note.NoCursor cursor) h = absurd h
   some_refused (note.NotASegment name part) (inl w) = table_right w.wrong
   some_refused (note.NotASegment name part) (inr w) = segment_right name part w
 

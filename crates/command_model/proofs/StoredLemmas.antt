@@ -106,6 +106,8 @@ table_segments files (note.BadCsv wrong row column) h = absurd h
 table_segments files (note.TooLarge what limit) h = absurd h
 table_segments files (note.BadQuery wrong place) h = absurd h
 table_segments files (note.TooManyGroups most) h = absurd h
+table_segments files (note.CursorTaken cursor) h = absurd h
+table_segments files (note.NoCursor cursor) h = absurd h
 table_segments files (note.NotASegment name part) h = inl h
 
 stops_more : (held : Option Files) (why : Stop) → StopsStore TableRefuses held why → StopsStore SegmentsRefuse held why

@@ -1,11 +1,11 @@
 -- Words that may not write.
-use Rattle.std.proofs.Common.{◌≡◌, ◌∷◌, [], ℕ, Bool, List, Option, None, Some, refl, ap, true, false}
+use Rattle.std.proofs.Common.{◌≡◌, ◌∷◌, [], ℕ, Bool, List, Option, None, Some, cond, refl, ap, true, false}
 use Rattle.std.specs.Prelude.{codes}
 use Rattle.std.specs.Str.{bytes_eq}
 use Rattle.outside.specs.Files.{Files}
 use Rattle.outside.specs.Seen.{Seen}
 use Rattle.table_store.specs.State.{State}
-use Rattle.command_words.specs.Command.{Ask, Attach, Build, Command, Create, Drop, Listing, Look, Open, Scan, asks_write, by_verb, command_of, may_write, rows_asked, unless_rows, writes}
+use Rattle.command_words.specs.Command.{Ask, Attach, Build, Command, Create, Drop, Listing, Look, Open, Scan, Script, Serve, asks_write, command_of, may_write, request_of, rows_asked, unless_rows, writes}
 use Rattle.command_model.specs.Profile.{profile}
 use Rattle.table_store.specs.Images.{Found}
 use Rattle.command_model.specs.Step.{step_of}
@@ -30,14 +30,15 @@ by_rows : (asked : Option ℕ) (command : Option Command) → asks_write (unless
 by_rows None command quiet = quiet
 by_rows (Some rows) command quiet = absurd cc
 
-by_test : (test : Bool) (words : List (List ℕ)) (file : List ℕ) → asks_write (by_verb test words file) ≡ false → writes (command_of words) ≡ false
-by_test true words file quiet = absurd cc
-by_test false words file quiet = by_rows (rows_asked words) (command_of words) quiet
+by_test : (script serve : Bool) (words : List (List ℕ)) (file : List ℕ) → asks_write (cond script (Script file) (cond serve (Serve file) (request_of words))) ≡ false → writes (command_of words) ≡ false
+by_test true serve words file quiet = absurd cc
+by_test false true words file quiet = absurd cc
+by_test false false words file quiet = by_rows (rows_asked words) (command_of words) quiet
 
 quiet_words : (words : List (List ℕ)) → may_write words ≡ false → writes (command_of words) ≡ false
 quiet_words [] quiet = quiet
 quiet_words (verb ∷ []) quiet = quiet
-quiet_words (verb ∷ file ∷ []) quiet = by_test (bytes_eq verb (codes "script")) (verb ∷ file ∷ []) file quiet
+quiet_words (verb ∷ file ∷ []) quiet = by_test (bytes_eq verb (codes "script")) (bytes_eq verb (codes "serve")) (verb ∷ file ∷ []) file quiet
 quiet_words (verb ∷ file ∷ more ∷ rest) quiet = quiet
 
 pub leaves_state : LeavesState

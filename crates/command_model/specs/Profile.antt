@@ -65,6 +65,7 @@ scan_counts counted.JsonBytes = false
 scan_counts counted.Segments = false
 scan_counts counted.TreeBytes = false
 scan_counts counted.ScriptBytes = false
+scan_counts counted.Cursors = false
 scan_counts what = true
 
 -- the refusals of `scan`

@@ -90,10 +90,11 @@ rows_asked words = None
 
 -- ---- requests
 
--- what words ask for: the commands of a file, or one command, if they spell one, or rows that are
--- to be generated, which several commands do
+-- what words ask for: the commands of a file, or its lines on cursors, or one command, if they
+-- spell one, or rows that are to be generated, which several commands do
 pub data Request : Type 0 where
   Script : (file : List ℕ) → Request
+  Serve : (file : List ℕ) → Request
   One : (command : Option Command) → Request
   Generate : (rows : ℕ) → Request
 
@@ -102,23 +103,22 @@ abbrev pub unless_rows : Option ℕ → Option Command → Request
 unless_rows None command = One command
 unless_rows (Some rows) command = Generate rows
 
--- what words that ask for no script ask for, as those of a line of one
+-- what words that name no file of lines ask for, as those of a line of a script
 abbrev pub request_of : List (List ℕ) → Request
 request_of words = unless_rows (rows_asked words) (command_of words)
 
--- two words are a script or what a line may ask for
-abbrev pub by_verb : Bool → List (List ℕ) → List ℕ → Request
-by_verb true words file = Script file
-by_verb false words file = request_of words
-
 -- what these words ask for
 abbrev pub call_of : List (List ℕ) → Request
-call_of (verb ∷ file ∷ []) = by_verb (bytes_eq verb (codes "script")) (verb ∷ file ∷ []) file
+call_of (verb ∷ file ∷ []) =
+    if bytes_eq verb (codes "script") then Script file
+    else if bytes_eq verb (codes "serve") then Serve file
+    else request_of (verb ∷ file ∷ [])
 call_of words = One (command_of words)
 
--- whether what is asked for may write the store; a script may
+-- whether what is asked for may write the store; the lines of a file may
 abbrev pub asks_write : Request → Bool
 asks_write (Script file) = true
+asks_write (Serve file) = true
 asks_write (One command) = writes command
 asks_write (Generate rows) = true
 

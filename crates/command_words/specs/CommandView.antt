@@ -1,6 +1,8 @@
 -- What the code's commands say.
 use Rattle.segment_file.specs.Names.{IsSegmentName}
 use Rattle.command_words.specs.Command as spec
+use Rattle.command_words.specs.declared.command.Batch.{Batch}
+use Rattle.command_words.specs.declared.command.Batch.TheVariants as batch
 use Rattle.command_words.specs.declared.command.Command.{Command}
 use Rattle.command_words.specs.declared.command.Command.TheVariants as code
 
@@ -22,3 +24,8 @@ IsNamed (code.Drop name) = IsSegmentName name.now
 IsNamed (code.Look aim name) = IsSegmentName name.now
 IsNamed (code.Attach name file) = IsSegmentName name.now
 IsNamed other = Unit {0}
+
+-- what is asked for by a file of lines
+abbrev pub batch_view : Batch → spec.Request
+batch_view (batch.Script file) = spec.Script file.now
+batch_view (batch.Serve file) = spec.Serve file.now

@@ -16,7 +16,7 @@ use Rattle.command_words.specs.declared.bad_query.QueryReason.TheVariants as rea
 use Rattle.command_words.specs.declared.note.Counted.{Counted}
 use Rattle.command_words.specs.declared.note.Counted.TheVariants as counted
 use Rattle.command_words.specs.declared.note.Note.{Note}
-use Rattle.command_words.specs.declared.note.Note.TheVariants.{BadCsv, BadQuery, BadSchema, BadSettings, BadWords, NameTaken, NoInput, NoSegment, NoTable, TableExists, TooLarge, TooManyGroups, NotASegment}
+use Rattle.command_words.specs.declared.note.Note.TheVariants.{BadCsv, BadQuery, BadSchema, BadSettings, BadWords, CursorTaken, NameTaken, NoCursor, NoInput, NoSegment, NoTable, TableExists, TooLarge, TooManyGroups, NotASegment}
 use Rattle.command_words.specs.declared.fault.Fault.{Fault}
 use Rattle.command_words.specs.declared.fault.Fault.TheVariants as fault
 use Rattle.command_words.specs.declared.status.Status.{Status}
@@ -41,6 +41,8 @@ code_of status.TooManyGroups = 14
 code_of status.ReadFault = 15
 code_of status.WriteFault = 16
 code_of status.NoMemory = 17
+code_of status.CursorTaken = 18
+code_of status.NoCursor = 19
 
 -- whether a status tells of a device that failed or of want of memory
 abbrev pub is_fault : Status → Bool
@@ -64,6 +66,8 @@ status_of (TooLarge what limit) = status.TooLarge
 status_of (BadQuery wrong place) = status.BadQuery
 status_of (TooManyGroups most) = status.TooManyGroups
 status_of (NotASegment name part) = status.NotASegment
+status_of (CursorTaken cursor) = status.CursorTaken
+status_of (NoCursor cursor) = status.NoCursor
 
 -- nothing is said of the path of a whole text
 abbrev pub path_text : List ℕ → List ℕ
@@ -84,6 +88,7 @@ counted_text counted.Rows = codes "rows"
 counted_text counted.Segments = codes "segments"
 counted_text counted.TreeBytes = codes "tree bytes"
 counted_text counted.ScriptBytes = codes "script bytes"
+counted_text counted.Cursors = codes "cursors"
 
 -- the note line of a refusal
 abbrev pub note_text : Note → List ℕ
@@ -106,6 +111,8 @@ note_text (BadQuery wrong place) = codes "bad query: " ++ reason_text wrong ++ c
 note_text (TooManyGroups most) = codes "too many groups, limit " ++ decimal most ++ codes "\n"
 note_text (NotASegment name part) = codes "not a segment: " ++ name ++ codes ", part " ++ part
     ++ codes "\n"
+note_text (CursorTaken cursor) = codes "cursor taken: " ++ cursor ++ codes "\n"
+note_text (NoCursor cursor) = codes "no cursor: " ++ cursor ++ codes "\n"
 
 -- what is told of a CSV text that has no rows
 abbrev pub csv_note : CsvFault → Note

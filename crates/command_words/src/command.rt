@@ -1,7 +1,7 @@
 //! The words of a command.
 ghost use Rattle.std.specs.Prelude.{◌≡◌, map, option_map, string_bytes, IfSome, MatchOption};
-ghost use Rattle.command_words.specs.Command.{Script, call_of, command_of, request_of, may_write, number_after, number_of, rows_asked};
-ghost use Rattle.command_words.specs.CommandView.{IsNamed, command_view};
+ghost use Rattle.command_words.specs.Command.{call_of, command_of, request_of, may_write, number_after, number_of, rows_asked};
+ghost use Rattle.command_words.specs.CommandView.{IsNamed, batch_view, command_view};
 
 use crate::about::About;
 use crate::aim::Aim;
@@ -75,15 +75,27 @@ pub fn read_command(words: &[String]) -> Option<Command<'_>>
     None
 }
 
-/// The file of the script that these words ask for, if they ask for one.
-pub fn script_file(words: &[String]) -> Option<&str>
+/// A file of lines that is to be run.
+#[derive(Clone, Copy)]
+pub enum Batch<'a> {
+    /// Commands: the file's name.
+    Script(&'a str),
+    /// Lines on cursors: the file's name.
+    Serve(&'a str),
+}
+
+/// The file of lines that these words name, if they name one.
+pub fn batch_asked(words: &[String]) -> Option<Batch<'_>>
     ensures { MatchOption result (call_of (map string_bytes words.now)
         ≡ request_of (map string_bytes words.now))
-        (λ file. call_of (map string_bytes words.now) ≡ Script file.now) }
+        (λ batch. call_of (map string_bytes words.now) ≡ batch_view batch) }
 {
     if let [verb, file] = words {
         if verb.as_str().as_bytes() == b"script".as_slice() {
-            return Some(file.as_str());
+            return Some(Batch::Script(file.as_str()));
+        }
+        if verb.as_str().as_bytes() == b"serve".as_slice() {
+            return Some(Batch::Serve(file.as_str()));
         }
     }
     None
@@ -131,7 +143,7 @@ fn number_after(before: u32, digits: &[u8]) -> Option<u32>
 pub fn may_write(words: &[String]) -> bool
     ensures { result ≡ may_write (map string_bytes words.now) }
 {
-    if script_file(words).is_some() || rows_asked(words).is_some() {
+    if batch_asked(words).is_some() || rows_asked(words).is_some() {
         return true;
     }
     match read_command(words) {

@@ -8,15 +8,17 @@ mod command;
 mod fault;
 mod line;
 mod note;
+mod serve_line;
 mod status;
 mod stop;
 
 pub use about::About;
 pub use aim::Aim;
 pub use bad_query::QueryReason;
-pub use command::{Command, may_write, read_command, rows_asked, script_file};
+pub use command::{Batch, Command, batch_asked, may_write, read_command, rows_asked};
 pub use fault::Fault;
 pub use line::{note_line, status_of};
 pub use note::{Counted, Note};
+pub use serve_line::{ServeLine, read_serve_line};
 pub use status::Status;
 pub use stop::Stop;

@@ -29,6 +29,8 @@ pub fn status_of(note: &Note) -> Status
         Note::BadQuery(_, _) => Status::BadQuery,
         Note::TooManyGroups(_) => Status::TooManyGroups,
         Note::NotASegment(_, _) => Status::NotASegment,
+        Note::CursorTaken(_) => Status::CursorTaken,
+        Note::NoCursor(_) => Status::NoCursor,
     }
 }
 
@@ -136,6 +138,26 @@ fn missing_line(alloc: Global, name: &[u8]) -> Result<Vec<u8>, AllocError>
     Ok(line)
 }
 
+// The line of a cursor that is open.
+fn taken_line(alloc: Global, name: &[u8]) -> Result<Vec<u8>, AllocError>
+    ensures { IfOk result (λ line. line.items ≡ spec.note_text (Note.CursorTaken name.now)) }
+{
+    let mut line = b"cursor taken: ".to_vec(alloc)?;
+    line.extend_from_slice(name)?;
+    line.push(b'\n')?;
+    Ok(line)
+}
+
+// The line of a cursor that is not open.
+fn absent_line(alloc: Global, name: &[u8]) -> Result<Vec<u8>, AllocError>
+    ensures { IfOk result (λ line. line.items ≡ spec.note_text (Note.NoCursor name.now)) }
+{
+    let mut line = b"no cursor: ".to_vec(alloc)?;
+    line.extend_from_slice(name)?;
+    line.push(b'\n')?;
+    Ok(line)
+}
+
 // The line of a file that is not there.
 fn file_line(alloc: Global, file: &[u8]) -> Result<Vec<u8>, AllocError>
     ensures { IfOk result (λ line. line.items ≡ spec.note_text (Note.NoInput file.now)) }
@@ -174,6 +196,8 @@ pub fn note_line(alloc: Global, note: &Note) -> Result<Vec<u8>, AllocError>
         Note::BadQuery(reason, place) => query_line(alloc, *reason, *place),
         Note::TooManyGroups(most) => groups_line(alloc, *most),
         Note::NotASegment(name, part) => segment_line(alloc, name.as_slice(), part.as_slice()),
+        Note::CursorTaken(name) => taken_line(alloc, name.as_slice()),
+        Note::NoCursor(name) => absent_line(alloc, name.as_slice()),
     }
 }
 
@@ -190,5 +214,6 @@ fn counted_text(what: Counted) -> &'static [u8]
         Counted::Segments => b"segments",
         Counted::TreeBytes => b"tree bytes",
         Counted::ScriptBytes => b"script bytes",
+        Counted::Cursors => b"cursors",
     }
 }

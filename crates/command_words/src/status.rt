@@ -39,6 +39,10 @@ pub enum Status {
     WriteFault,
     /// Memory ran out.
     NoMemory,
+    /// A cursor of this name is open already.
+    CursorTaken,
+    /// No cursor of this name is open.
+    NoCursor,
 }
 
 impl Status {
@@ -64,6 +68,8 @@ impl Status {
             Status::ReadFault => 15,
             Status::WriteFault => 16,
             Status::NoMemory => 17,
+            Status::CursorTaken => 18,
+            Status::NoCursor => 19,
         }
     }
 }

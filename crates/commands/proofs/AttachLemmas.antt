@@ -62,6 +62,8 @@ module _ (name file : List ℕ) where
   place_caused inputs stored (note.TooLarge what limit) e tells told = absurd cc
   place_caused inputs stored (note.BadQuery wrong place) e tells told = absurd cc
   place_caused inputs stored (note.TooManyGroups most) e tells told = absurd cc
+  place_caused inputs stored (note.CursorTaken cursor) e tells told = absurd cc
+  place_caused inputs stored (note.NoCursor cursor) e tells told = absurd cc
   place_caused inputs stored (note.NotASegment of part) e tells told =
       told_each stored (λ files. PlaceRefuses name files (note.NotASegment of part)) (λ files. IsWrong (Some (Attach name file)) inputs files of part) (λ files h. inl (wrong_table name of part files h)) told
 
@@ -79,6 +81,8 @@ module _ (name file : List ℕ) where
   place_looked i a b (note.TooLarge what limit) = λ e. refl
   place_looked i a b (note.BadQuery wrong place) = λ e. refl
   place_looked i a b (note.TooManyGroups most) = λ e. refl
+  place_looked i a b (note.CursorTaken cursor) = λ e. refl
+  place_looked i a b (note.NoCursor cursor) = λ e. refl
   place_looked i a b (note.NotASegment of part) = told_all a.held (λ files. OfFile (Some files) table_name IsNoTableFile → i ≡ i) (λ files none. refl)
 
 -- ---- the clause of `attach`
@@ -207,6 +211,8 @@ module _ (name file : List ℕ) (i j a b : Seen) (table : Table) (place : FindsP
   line_so (note.TooLarge what limit) f = absurd f.stops
   line_so (note.BadQuery wrong place') f = absurd f.stops
   line_so (note.TooManyGroups most) f = absurd f.stops
+  line_so (note.CursorTaken cursor) f = absurd f.stops
+  line_so (note.NoCursor cursor) f = absurd f.stops
   line_so (note.NotASegment of part) f =
       let (named, wrong, text, none) = f.stops in
       let same : note.NotASegment of part ≡ note.NotASegment name (part_text table.schema.fields wrong) = λ k. note.NotASegment (named k) (text k) in

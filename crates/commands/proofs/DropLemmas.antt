@@ -52,6 +52,8 @@ first_line (note.BadCsv wrong row column) e = absurd cc
 first_line (note.TooLarge what limit) e = absurd cc
 first_line (note.BadQuery wrong place) e = absurd cc
 first_line (note.TooManyGroups most) e = absurd cc
+first_line (note.CursorTaken cursor) e = absurd cc
+first_line (note.NoCursor cursor) e = absurd cc
 first_line (note.NotASegment name part) e = refl
 
 table_caused : (name : List ℕ) (inputs stored : Option Files) (line : Note) → store_refuses line ≡ true → IfSome stored (λ files. TableRefuses files line) → Caused (Some (Drop name)) inputs stored line
@@ -67,6 +69,8 @@ table_caused name inputs stored (note.BadCsv wrong row column) e h = absurd cc
 table_caused name inputs stored (note.TooLarge what limit) e h = absurd cc
 table_caused name inputs stored (note.BadQuery wrong place) e h = absurd cc
 table_caused name inputs stored (note.TooManyGroups most) e h = absurd cc
+table_caused name inputs stored (note.CursorTaken cursor) e h = absurd cc
+table_caused name inputs stored (note.NoCursor cursor) e h = absurd cc
 table_caused name inputs stored (note.NotASegment of part) e h = h
 
 -- ---- over any files

@@ -65,6 +65,8 @@ table_caused aim name inputs stored (note.BadCsv wrong row column) e h = absurd 
 table_caused aim name inputs stored (note.TooLarge what limit) e h = absurd cc
 table_caused aim name inputs stored (note.BadQuery wrong place) e h = absurd cc
 table_caused aim name inputs stored (note.TooManyGroups most) e h = absurd cc
+table_caused aim name inputs stored (note.CursorTaken cursor) e h = absurd cc
+table_caused aim name inputs stored (note.NoCursor cursor) e h = absurd cc
 table_caused aim name inputs stored (note.NotASegment of part) e h =
     told_each stored (λ files. IsWrongTable files of part) (λ files. IsWrong (Some (Look aim name)) inputs files of part) (λ files w. inl w) h
 
@@ -189,6 +191,8 @@ module _ (aim : Aim) (name : List ℕ) (i a b d : Seen) (table : Table) (first :
   line_so (note.TooLarge what limit) f = absurd f.stops
   line_so (note.BadQuery wrong place) f = absurd f.stops
   line_so (note.TooManyGroups most) f = absurd f.stops
+  line_so (note.CursorTaken cursor) f = absurd f.stops
+  line_so (note.NoCursor cursor) f = absurd f.stops
   line_so (note.NotASegment of part) f =
       let has = before (λ h. HasSegment h name) f.stops.1 in
       let wrong = before (λ h. IfSome h (IsPartOf aim table name part)) f.stops.2 in

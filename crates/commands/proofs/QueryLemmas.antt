@@ -61,6 +61,8 @@ table_query about sql files (note.BadCsv wrong row column) h = absurd h
 table_query about sql files (note.TooLarge what limit) h = absurd h
 table_query about sql files (note.BadQuery wrong place) h = absurd h
 table_query about sql files (note.TooManyGroups most) h = absurd h
+table_query about sql files (note.CursorTaken cursor) h = absurd h
+table_query about sql files (note.NoCursor cursor) h = absurd h
 table_query about sql files (note.NotASegment name part) h = inl h
 
 stops_query : (about : About) (sql : List ℕ) (held : Option Files) (why : Stop) → StopsStore TableRefuses held why → StopsQuery about sql held why
@@ -236,6 +238,8 @@ caused_query inputs stored about sql (note.TooLarge counted.Segments limit) e h 
 caused_query inputs stored about sql (note.TooLarge what limit) e h = told_all inputs (λ files. Finds (Some (Ask about sql)) files stored (note.TooLarge what limit)) (λ files. h)
 caused_query inputs stored about sql (note.BadQuery wrong place) e h = told_all inputs (λ files. Finds (Some (Ask about sql)) files stored (note.BadQuery wrong place)) (λ files. h)
 caused_query inputs stored about sql (note.TooManyGroups most) e h = told_all inputs (λ files. Finds (Some (Ask about sql)) files stored (note.TooManyGroups most)) (λ files. h)
+caused_query inputs stored about sql (note.CursorTaken cursor) e h = absurd cc
+caused_query inputs stored about sql (note.NoCursor cursor) e h = absurd cc
 caused_query inputs stored about sql (note.NotASegment name part) e h = h
 
 module _ (about : About) (sql : List ℕ) (inputs old new : Seen) where

@@ -92,6 +92,8 @@ few_line (note.BadCsv wrong row column) e = refl
 few_line (note.TooLarge what limit) e = e
 few_line (note.BadQuery wrong place) e = refl
 few_line (note.TooManyGroups most) e = refl
+few_line (note.CursorTaken cursor) e = absurd cc
+few_line (note.NoCursor cursor) e = absurd cc
 few_line (note.NotASegment name part) e = absurd cc
 
 few_caused : (file sql : List ℕ) (inputs stored : Option Files) (line : Note) → rows_refuse line ≡ true → IfSome inputs (IsOf file sql (Refuses line)) → Caused (Some (Scan file sql)) inputs stored line
@@ -108,6 +110,8 @@ few_caused file sql inputs stored (note.TooLarge counted.Segments limit) e told 
 few_caused file sql inputs stored (note.TooLarge what limit) e told = told_each inputs _ _ (λ files is. sym is) told
 few_caused file sql inputs stored (note.BadQuery wrong place) e told = told_each inputs _ _ (λ files is. sym is) told
 few_caused file sql inputs stored (note.TooManyGroups most) e told = told_each inputs _ _ (λ files is. sym is) told
+few_caused file sql inputs stored (note.CursorTaken cursor) e told = absurd cc
+few_caused file sql inputs stored (note.NoCursor cursor) e told = absurd cc
 few_caused file sql inputs stored (note.NotASegment name part) e told = absurd cc
 
 -- ---- the clause of `scan`

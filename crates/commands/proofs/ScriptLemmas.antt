@@ -122,6 +122,11 @@ pub opened_text : (held : Option Files) (file bytes : List ℕ) (result : Result
 opened_text held file bytes (Ok text) whole (is, valid) = whole_text held file bytes text whole is
 opened_text held file bytes (Err why) whole opens = tt
 
+-- it is not longer than the file
+pub opened_short : (bytes : List ℕ) (result : Result (List ℕ) Stop) → length bytes ≤ 16777216 → OpensBytes bytes result → IfOk result (λ text. length text ≤ 16777216)
+opened_short bytes (Ok text) le (is, valid) = subst (λ t. length t ≤ 16777216) (sym is) le
+opened_short bytes (Err why) le opens = tt
+
 -- bytes that are no UTF-8 are told so
 pub not_text : (test : Bool) (bytes : List ℕ) → is_utf8 bytes ≡ test → (IsUtf8 bytes → ⊥) → is_utf8 bytes ≡ false
 not_text true bytes is never = absurd (never (IsUtf8-from_is_utf8 bytes is))

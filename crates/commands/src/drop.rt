@@ -53,8 +53,8 @@ fn remove<D: Depot>(alloc: Global, name: &str, depot: &mut D) -> Result<Bytes, S
     }
 }
 
-// The reply that a segment was dropped.
-fn dropped(alloc: Global, name: &str) -> Result<Bytes, AllocError>
+/// The reply that a segment was dropped.
+pub fn dropped(alloc: Global, name: &str) -> Result<Bytes, AllocError>
     ensures { IfOk result (λ text. text ≡ dropped_text name.now) }
 {
     let mut text = b"dropped ".to_vec(alloc)?;

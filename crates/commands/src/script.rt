@@ -1,9 +1,10 @@
 //! The opening of a script, which is the file of its commands.
-ghost use Rattle.std.specs.Prelude.{◌≡◌, Some, IfOk};
+ghost use Rattle.std.specs.Prelude.{◌≡◌, ◌≤◌, Some, IfOk, length};
 ghost use Rattle.outside.specs.Files.{OfFile};
 ghost use Rattle.outside.specs.Seen.{Seen, seen};
 ghost use Rattle.command_words.specs.Command.{Open};
 ghost use Rattle.command_model.specs.Gives.{OpensBytes};
+ghost use Rattle.command_model.specs.Profile.{script_limit};
 ghost use Rattle.command_model.specs.Ran.{Ran, opening};
 
 use command_model::read_input;
@@ -21,6 +22,7 @@ pub fn open_script<I: Shelf>(alloc: Global, file: &str, inputs: &mut I) -> Resul
         (record { inputs = seen I.Shelf inputs.new; depot = depot }) (opening result) }
     ensures text { IfOk result (λ text.
         OfFile (I.held inputs.old) file.now (λ bytes. bytes ≡ text)) }
+    ensures short { IfOk result (λ text. length text ≤ script_limit) }
 {
     let bytes = read_input(alloc, file, Counted::ScriptBytes, SCRIPT_LIMIT, inputs)?;
     text_of(alloc, bytes)

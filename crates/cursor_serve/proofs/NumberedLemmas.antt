@@ -205,7 +205,7 @@ kept_once m number other version true got sound is =
       apart ks all.1 (λ x one. in_kept x (inr one)),
     )
 
-puts_numbered : (m : Machine) (other : List ℕ) (rows : List (List Value)) → IsSound m → IsNumbered m → IsNumbered (with_list other rows m)
+pub puts_numbered : (m : Machine) (other : List ℕ) (rows : List (List Value)) → IsSound m → IsNumbered m → IsNumbered (with_list other rows m)
 puts_numbered m other rows sound is = widens m (with_list other rows m) (record { name = other; version = new }) refl sound was is.once is
   where
     new : Version

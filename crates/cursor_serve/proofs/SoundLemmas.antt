@@ -300,7 +300,7 @@ among_last k [] = inl refl
 among_last k (x ∷ kept) = inr (among_last k kept)
 
 -- a list is put in under a name that has none
-puts : (m : Machine) (other : List ℕ) (rows : List (List Value)) → finite.get m.live other ≡ None → IsSound m → IsSound (with_list other rows m)
+pub puts : (m : Machine) (other : List ℕ) (rows : List (List Value)) → finite.get m.live other ≡ None → IsSound m → IsSound (with_list other rows m)
 puts m other rows none is =
     let new : Version = record { number = m.next; rows = rows } in
     let next : Machine = with_list other rows m in

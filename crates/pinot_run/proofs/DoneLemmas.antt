@@ -6,7 +6,7 @@ use Rattle.outside.specs.Files.{Files, OfFile}
 use Rattle.outside.specs.Sink.{appended}
 use Rattle.table_store.specs.Stands.{Stands}
 use Rattle.table_store.specs.State.{State}
-use Rattle.command_words.specs.Command.{Generate, One, Open, Request, Script}
+use Rattle.command_words.specs.Command.{Generate, One, Open, Request, Script, Serve}
 use Rattle.command_words.specs.Notes.{is_fault}
 use Rattle.command_words.specs.declared.status.Status.{Status}
 use Rattle.command_words.specs.declared.status.Status.TheVariants as status
@@ -51,6 +51,7 @@ no_last files line old new e = elim e.stops [
 line_given : (files : Files) (request : Request) (old : Stage State) (said : Status) (between : Stage State) → is_fault said ≡ false → DoesOne (Moves files) request old said between
     → (after : After) × IsStepOf old.kept request files after × IsGiven after.answer said old between × (between.kept ≡ after.state)
 line_given files (Script file) old said between fine d = absurd d
+line_given files (Serve file) old said between fine d = absurd d
 line_given files (One command) old said between fine m =
     let h = given_of (HasStep old.kept command files) old said between fine m.leaves in
     (step_of old.kept command files h.0, (h.0, h.1, refl), h.2.0, h.2.1)

@@ -21,7 +21,8 @@ use Rattle.command_model.specs.World.{Devices, World}
 use Rattle.pinot_run.specs.Generate.{Generates, RunsThrough, Tells, after, aside, line_after, told}
 use Rattle.pinot_run.specs.Promise.{Noted, Promise}
 use Rattle.pinot_run.specs.Script.{DoesOne}
-use Rattle.pinot_run.proofs.PromiseLemmas.{GaveNote, GaveText, fault_promise, faults_are, line_promise, nothing_more, text_promise, unnoted}
+use Rattle.pinot_run.specs.Gives.{GaveNote, GaveText}
+use Rattle.pinot_run.proofs.PromiseLemmas.{fault_promise, faults_are, line_promise, nothing_more, text_promise, unnoted}
 use Rattle.pinot_run.proofs.ScriptLemmas.{fault_not_done, line_not_done}
 
 -- ---- refusals
@@ -39,6 +40,8 @@ line_fine (note.BadCsv wrong row column) = refl
 line_fine (note.TooLarge what limit) = refl
 line_fine (note.BadQuery wrong place) = refl
 line_fine (note.TooManyGroups most) = refl
+line_fine (note.CursorTaken cursor) = refl
+line_fine (note.NoCursor cursor) = refl
 line_fine (note.NotASegment name part) = refl
 
 line_no_write : (line : Note) → status_of line ≢ status.WriteFault
@@ -60,6 +63,8 @@ none_after rows (note.BadCsv wrong row column) texts = refl
 none_after rows (note.TooLarge what limit) texts = refl
 none_after rows (note.BadQuery wrong place) texts = refl
 none_after rows (note.TooManyGroups most) texts = refl
+none_after rows (note.CursorTaken cursor) texts = refl
+none_after rows (note.NoCursor cursor) texts = refl
 none_after rows (note.NotASegment name part) texts = refl
 
 -- ---- streams of their own

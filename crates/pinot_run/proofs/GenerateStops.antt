@@ -56,6 +56,8 @@ fault_kept files command old new kept left status.NoSegment line fault m = absur
 fault_kept files command old new kept left status.BadQuery line fault m = absurd cc
 fault_kept files command old new kept left status.NotASegment line fault m = absurd cc
 fault_kept files command old new kept left status.TooManyGroups line fault m = absurd cc
+fault_kept files command old new kept left status.CursorTaken line fault m = absurd cc
+fault_kept files command old new kept left status.NoCursor line fault m = absurd cc
 
 -- one that is done has a reply, and leaves the state of its step
 record IsDone (state : State) (after : After) : Type 0 where

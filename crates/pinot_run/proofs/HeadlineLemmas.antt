@@ -18,10 +18,9 @@ use Rattle.pinot_run.specs.Headline.{FromEmpty, Headline, LeavesOf, Moves, Proce
 use Rattle.pinot_run.specs.Promise.{IsAnswered, IsGiven, IsUndone, Leaves, Promise}
 use Rattle.pinot_run.specs.Script.{Does}
 use Rattle.pinot_run.proofs.LawLemmas.{at, same_held, told_one}
-use Rattle.pinot_run.proofs.ScriptLifts.{does_lift}
 use Rattle.pinot_run.proofs.StateReads.{segments_read}
 
-if_told : (o : Option Files) (P : Files → Type 0) → ((files : Files) → o ≡ Some files → P files) → IfSome o P
+pub if_told : (o : Option Files) (P : Files → Type 0) → ((files : Files) → o ≡ Some files → P files) → IfSome o P
 if_told None P f = tt
 if_told (Some files) P f = f files refl
 
@@ -85,6 +84,8 @@ module _ (command : Option Command) (files kept : Files) (state : State) (old ne
   next_stands status.BadQuery l = next_by status.BadQuery l
   next_stands status.NotASegment l = next_by status.NotASegment l
   next_stands status.TooManyGroups l = next_by status.TooManyGroups l
+  next_stands status.CursorTaken l = next_by status.CursorTaken l
+  next_stands status.NoCursor l = next_by status.NoCursor l
 
 -- a command that ended without a fault gave all of its step
 pub given_of : (Has : (After → Type 0) → Type 0) (old : Stage State) (ended : Status) (new : Stage State) → is_fault ended ≡ false → LeavesOf Has old ended new → Has (λ after. IsGiven after.answer ended old new × (new.kept ≡ after.state))
@@ -105,6 +106,8 @@ given_of Has old status.NoSegment new fine l = l
 given_of Has old status.BadQuery new fine l = l
 given_of Has old status.NotASegment new fine l = l
 given_of Has old status.TooManyGroups new fine l = l
+given_of Has old status.CursorTaken new fine l = l
+given_of Has old status.NoCursor new fine l = l
 
 reads_of : (kept : Files) (state : State) (command : Option Command) (old : World) (ended : Status) (new : World) → old.devices.depot.held ≡ Some kept → Stands kept state → Promise command old ended new → ReadsOf state command ended old.devices new.devices
 reads_of kept NoTable command old ended new told stands p = tt
@@ -143,15 +146,3 @@ moves_on files command old state ended new i p =
       },
       record { inputs = same_held (profile command).files old.devices.inputs new.devices.inputs p.touched.inputs ∙ i.inputs; kept = held; stored = is; stands = stands },
     )
-
-pub headline : Headline
-headline kept state depot [] told stands are = tt
-headline kept state depot (call ∷ calls) told stands (found, does, later) =
-    let here : call.old.devices.depot.held ≡ Some kept = ap (λ (d : Seen). d.held) found ∙ told in
-    if_told call.old.devices.inputs.held (λ files. (next : State) × Does (Moves files) (call_of call.words) (beside state call.old) call.ended (beside next call.new) × Proceeds next calls)
-    (λ files inputs.
-    let (next, moves, i) = does_lift Promise (Moves files) (StandsIn files) (moves_on files) (stands_still files) (call_of call.words) call.old state call.ended call.new (record { inputs = inputs; kept = kept; stored = here; stands = stands }) does in
-    (next, moves, headline i.kept next call.new.devices.depot calls i.stored i.stands later))
-
-pub from_empty : FromEmpty
-from_empty depot calls told are = headline map.empty NoTable depot calls told (λ name. map.get-empty name_order name) are

@@ -230,6 +230,8 @@ module _ (files : Files) (command : Option Command) (old new : Stage State) wher
   either status.BadQuery l = inr (l.0, l.1, l.2.1)
   either status.NotASegment l = inr (l.0, l.1, l.2.1)
   either status.TooManyGroups l = inr (l.0, l.1, l.2.1)
+  either status.CursorTaken l = inr (l.0, l.1, l.2.1)
+  either status.NoCursor l = inr (l.0, l.1, l.2.1)
 
 pub moves : (files : Files) (command : Option Command) (old : Stage State) (ended : Status) (new : Stage State) → Moves files command old ended new → Changes command files old.kept new.kept
 moves files command old ended new moved = elim (either files command old new ended moved.leaves) [

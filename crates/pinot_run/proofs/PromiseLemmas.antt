@@ -6,6 +6,7 @@ use Rattle.outside.specs.Sink.{appended, AppendsPrefix}
 use Rattle.table_store.specs.State.{State}
 use Rattle.command_words.specs.Command.{Command}
 use Rattle.command_words.specs.Notes.{is_fault, note_text, status_of, status_of_fault}
+use Rattle.pinot_run.specs.Gives.{GaveNote, GaveText}
 use Rattle.pinot_run.specs.Promise.{Counted, IsAnswered, IsGiven, IsStep, Leaves, Noted, Promise}
 use Rattle.command_model.specs.Ran.{Acted, IsStepped, NoFaults, Ran, WhereStands}
 use Rattle.command_model.specs.Step.{Answer, HasStep, Refuses, Replies, status_after, step_of}
@@ -37,23 +38,6 @@ nothing_more (Some old) = ap Some (sym (append-nil old))
 -- the notes were left as they were
 quiet_notes : (old new : Option (List ℕ)) → new ≡ old → new ≡ appended [] old
 quiet_notes old new same = same ∙ nothing_more old
-
--- what was given of a text
-pub record GaveText (text : List ℕ) (ended : Status) (out out_new notes notes_new : Heard) : Type 0 where
-  pub ends : (ended ≡ status.Done) ⊎ (ended ≡ status.WriteFault)
-  pub done : ended ≡ status.Done → (out_new.written ≡ appended text out.written) × (notes_new.written ≡ notes.written)
-  pub cut : ended ≡ status.WriteFault → Rose out.faults out_new.faults
-  pub prefix : AppendsPrefix text out.written out_new.written
-  pub later : out.faults ≤ out_new.faults
-  pub unchanged : ended ≡ status.Done → out_new.faults ≡ out.faults
-  pub noted : Noted ended notes notes_new
-
--- what was given of a refusal
-pub record GaveNote (line : Note) (ended : Status) (notes notes_new : Heard) : Type 0 where
-  pub ends : (ended ≡ status_of line) ⊎ (ended ≡ status.WriteFault) ⊎ (ended ≡ status.NoMemory)
-  pub done : ended ≡ status_of line → notes_new.written ≡ appended (note_text line) notes.written
-  pub cut : ended ≡ status.WriteFault → Rose notes.faults notes_new.faults
-  pub noted : Noted ended notes notes_new
 
 abbrev pub after : Devices → Heard → Heard → World
 after new out notes = record { devices = new; out = out; notes = notes; kept = tt }
@@ -139,6 +123,8 @@ module _ (command : Option Command) (old : World) (new : Devices) where
   line_left (note.TooLarge what limit) now is = is
   line_left (note.BadQuery wrong place) now is = is
   line_left (note.TooManyGroups most) now is = is
+  line_left (note.CursorTaken cursor) now is = is
+  line_left (note.NoCursor cursor) now is = is
   line_left (note.NotASegment name part) now is = is
 
   line_done : (line : Note) (notes : Heard) → Ran command old.devices new (Err (stop.Refused line)) → GaveNote line (status_of line) old.notes notes → Promise command old (status_of line) (after new old.out notes)

@@ -8,7 +8,7 @@ use Rattle.std.proofs.lemmas.Iterator.{YieldsList}
 use Rattle.std.proofs.lemmas.List.{map-append, take_all, take_more}
 use denote.Ref.{Bor}
 use Rattle.outside.specs.Seen.{Heard}
-use Rattle.command_words.specs.Command.{Command, Generate, One, Request, Script}
+use Rattle.command_words.specs.Command.{Command, Generate, One, Request, Script, Serve}
 use Rattle.command_words.specs.Notes.{is_fault, status_of, status_of_fault}
 use Rattle.command_words.specs.declared.fault.Fault.{Fault}
 use Rattle.command_words.specs.declared.fault.Fault.TheVariants as fault
@@ -19,30 +19,42 @@ use Rattle.command_words.specs.declared.status.Status.TheVariants as status
 use Rattle.command_model.specs.World.{World}
 use Rattle.pinot_run.specs.Generate.{Generates}
 use Rattle.pinot_run.specs.Promise.{Promise}
-use Rattle.pinot_run.specs.Script.{Does, DoesOne, EndsAt, GivesMark, GoesOn, OfOne, OfRows, OfScript, RunsLines, RunsScript}
+use Rattle.pinot_run.specs.Script.{Does, DoesOne, EndsAt, GivesMark, GoesOn, OfOne, OfRows, OfScript, OfServe, RunsLines, RunsScript}
+use Rattle.pinot_run.specs.Serve.{RunsServe}
 use Rattle.pinot_run.specs.Text.{has_bytes, line_request}
-use Rattle.pinot_run.proofs.PromiseLemmas.{GaveText, nothing_more, unnoted}
+use Rattle.pinot_run.specs.Gives.{GaveText}
+use Rattle.pinot_run.proofs.PromiseLemmas.{nothing_more, unnoted}
 
 -- ---- what is asked for
 
-pub of_one : (Q : Option Command → Type 0) (request : Request) (old : World) (ended : Status) (new : World) → ((command : Option Command) → Promise command old ended new → Q command) → Does Promise request old ended new → OfOne request Q
+pub of_one : (Q : Option Command → Type 0) (request : Request) (old : World) (ended : Status) (new : World) → ((command : Option Command) → Promise command old ended new → Q command) → Does Promise RunsServe request old ended new → OfOne request Q
 of_one Q (Script file) old ended new f does = tt
+of_one Q (Serve file) old ended new f does = tt
 of_one Q (One command) old ended new f does = f command does
 of_one Q (Generate rows) old ended new f does = tt
 
-pub of_script : (request : Request) (old : World) (ended : Status) (new : World) → Does Promise request old ended new → OfScript request (λ file. RunsScript Promise file old ended new)
+pub of_script : (request : Request) (old : World) (ended : Status) (new : World) → Does Promise RunsServe request old ended new → OfScript request (λ file. RunsScript Promise file old ended new)
 of_script (Script file) old ended new does = does
+of_script (Serve file) old ended new does = tt
 of_script (One command) old ended new does = tt
 of_script (Generate rows) old ended new does = tt
 
-pub of_rows : (request : Request) (old : World) (ended : Status) (new : World) → Does Promise request old ended new → OfRows request (λ rows. Generates Promise rows old ended new)
+pub of_serve : (request : Request) (old : World) (ended : Status) (new : World) → Does Promise RunsServe request old ended new → OfServe request (λ file. RunsServe file old ended new)
+of_serve (Script file) old ended new does = tt
+of_serve (Serve file) old ended new does = does
+of_serve (One command) old ended new does = tt
+of_serve (Generate rows) old ended new does = tt
+
+pub of_rows : (request : Request) (old : World) (ended : Status) (new : World) → Does Promise RunsServe request old ended new → OfRows request (λ rows. Generates Promise rows old ended new)
 of_rows (Script file) old ended new does = tt
+of_rows (Serve file) old ended new does = tt
 of_rows (One command) old ended new does = tt
 of_rows (Generate rows) old ended new does = does
 
 -- what a line may ask for was asked for
-pub does_one : (request : Request) (old : World) (ended : Status) (new : World) → DoesOne Promise request old ended new → Does Promise request old ended new
+pub does_one : (request : Request) (old : World) (ended : Status) (new : World) → DoesOne Promise request old ended new → Does Promise RunsServe request old ended new
 does_one (Script file) old ended new does = absurd does
+does_one (Serve file) old ended new does = absurd does
 does_one (One command) old ended new does = does
 does_one (Generate rows) old ended new does = does
 
@@ -74,6 +86,8 @@ line_not_done (note.BadCsv wrong row column) e = absurd cc
 line_not_done (note.TooLarge what limit) e = absurd cc
 line_not_done (note.BadQuery wrong place) e = absurd cc
 line_not_done (note.TooManyGroups most) e = absurd cc
+line_not_done (note.CursorTaken cursor) e = absurd cc
+line_not_done (note.NoCursor cursor) e = absurd cc
 line_not_done (note.NotASegment name part) e = absurd cc
 
 pub note_not_done : (line : Note) (ended : Status) → (ended ≡ status_of line) ⊎ (ended ≡ status.WriteFault) ⊎ (ended ≡ status.NoMemory) → ended ≢ status.Done

@@ -1,6 +1,6 @@
 -- What each command of a script does leads to what all of them do.
 use Rattle.std.proofs.Common.{◌≡◌, inl, inr, ℕ, List, [], ◌∷◌, Option, Some, refl, ap}
-use Rattle.command_words.specs.Command.{Command, Generate, One, Open, Request, Script}
+use Rattle.command_words.specs.Command.{Command, Generate, One, Open, Request, Script, Serve}
 use Rattle.command_words.specs.declared.status.Status.{Status}
 use Rattle.command_model.specs.Generated.{generate_commands}
 use Rattle.command_model.specs.World.{Devices, Stage, World, beside}
@@ -57,6 +57,7 @@ module _ {K : Type 0} (P : Option Command → World → Status → World → Typ
   -- what a line asks for
   one_lift : (request : Request) (old : World) (k : K) (ended : Status) (new : World) → I old k → DoesOne P request old ended new → (next : K) × DoesOne Q request (beside k old) ended (beside next new) × I new next
   one_lift (Script file) old k ended new i d = absurd d
+  one_lift (Serve file) old k ended new i d = absurd d
   one_lift (One command) old k ended new i d = one command old k ended new i d
   one_lift (Generate rows) old k ended new i d = generates_lift rows old k ended new i d
 
@@ -109,7 +110,10 @@ module _ {K : Type 0} (P : Option Command → World → Status → World → Typ
             (next, record { said = s.said; opened = beside mid s.opened; opens = opens; follows = inr (done, text, text_is, lines) }, then)
       ]
 
-  pub does_lift : (request : Request) (old : World) (k : K) (ended : Status) (new : World) → I old k → Does P request old ended new → (next : K) × Does Q request (beside k old) ended (beside next new) × I new next
-  does_lift (Script file) old k ended new i d = script_lift file old k ended new i d
-  does_lift (One command) old k ended new i d = one command old k ended new i d
-  does_lift (Generate rows) old k ended new i d = generates_lift rows old k ended new i d
+  pub does_lift : (S : List ℕ → World → Status → World → Type 0) (T : List ℕ → Stage K → Status → Stage K → Type 0)
+      → ((file : List ℕ) (old : World) (k : K) (ended : Status) (new : World) → I old k → S file old ended new → (next : K) × T file (beside k old) ended (beside next new) × I new next)
+      → (request : Request) (old : World) (k : K) (ended : Status) (new : World) → I old k → Does P S request old ended new → (next : K) × Does Q T request (beside k old) ended (beside next new) × I new next
+  does_lift S T serve (Script file) old k ended new i d = script_lift file old k ended new i d
+  does_lift S T serve (Serve file) old k ended new i d = serve file old k ended new i d
+  does_lift S T serve (One command) old k ended new i d = one command old k ended new i d
+  does_lift S T serve (Generate rows) old k ended new i d = generates_lift rows old k ended new i d

@@ -101,6 +101,8 @@ not_done (note.BadCsv wrong row column) e = absurd cc
 not_done (note.TooLarge what limit) e = absurd cc
 not_done (note.BadQuery wrong place) e = absurd cc
 not_done (note.TooManyGroups most) e = absurd cc
+not_done (note.CursorTaken cursor) e = absurd cc
+not_done (note.NoCursor cursor) e = absurd cc
 not_done (note.NotASegment name part) e = absurd cc
 
 replied : (command : Option Command) (old new : Devices) (answer : Answer) → status.Done ≡ status_after answer → IsAllowed command old new answer → Consulted command old new

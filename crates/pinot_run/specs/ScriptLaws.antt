@@ -5,7 +5,7 @@ use Rattle.outside.specs.Files.{Files}
 use Rattle.outside.specs.Sink.{appended}
 use Rattle.table_store.specs.Stands.{Stands}
 use Rattle.table_store.specs.State.{State}
-use Rattle.command_words.specs.Command.{Generate, One, Request, Script}
+use Rattle.command_words.specs.Command.{Generate, One, Request, Script, Serve}
 use Rattle.command_words.specs.declared.status.Status.TheVariants as status
 use Rattle.command_model.specs.Step.{After, HasStep, status_after, text_of}
 use Rattle.command_model.specs.Through.{generate_step}
@@ -20,6 +20,7 @@ abbrev pub IsStepOf : State → Request → Files → After → Type 0
 IsStepOf state (One command) files after = HasStep state command files (λ step. after ≡ step)
 IsStepOf state (Generate rows) files after = after ≡ generate_step state rows files
 IsStepOf state (Script file) files after = ⊥
+IsStepOf state (Serve file) files after = ⊥
 
 -- what lines print from a state on, and the state that they leave: the reply of each by its step,
 -- and its mark, one after another

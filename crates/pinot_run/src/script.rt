@@ -104,8 +104,8 @@ fn run_words<I: Shelf, D: Depot, O: Sink, N: Sink>(
     }
 }
 
-// The words of a line.
-fn words_in(alloc: Global, line: &str) -> Result<Vec<String>, AllocError>
+/// The words of a line.
+pub(crate) fn words_in(alloc: Global, line: &str) -> Result<Vec<String>, AllocError>
     ensures { IfOk result (λ words. map string_bytes words.items ≡ words_of line.now) }
 {
     let parts = parts_of(alloc, line)?;
@@ -123,8 +123,12 @@ fn parts_of(alloc: Global, line: &str) -> Result<Vec<&str>, AllocError>
     line.split('\t').collect(alloc)
 }
 
-// Gives the mark of a line, or notes that the stream of replies failed.
-fn give_mark<O: Sink, N: Sink>(said: Status, out: &mut O, notes: &mut N) -> Result<(), Status>
+/// Gives the mark of a line, or notes that the stream of replies failed.
+pub(crate) fn give_mark<O: Sink, N: Sink>(
+    said: Status,
+    out: &mut O,
+    notes: &mut N,
+) -> Result<(), Status>
     ensures { GivesMark said (heard O.Sink out.old) (heard O.Sink out.new)
         (heard N.Sink notes.old) (heard N.Sink notes.new) result }
 {
@@ -135,8 +139,8 @@ fn give_mark<O: Sink, N: Sink>(said: Status, out: &mut O, notes: &mut N) -> Resu
     }
 }
 
-// Whether a status tells of a fault.
-fn is_fault(status: Status) -> bool
+/// Whether a status tells of a fault.
+pub(crate) fn is_fault(status: Status) -> bool
     ensures { result ≡ is_fault status }
 {
     matches!(
@@ -167,5 +171,7 @@ fn mark_of(said: Status) -> &'static [u8]
         Status::ReadFault => b"[15]\n",
         Status::WriteFault => b"[16]\n",
         Status::NoMemory => b"[17]\n",
+        Status::CursorTaken => b"[18]\n",
+        Status::NoCursor => b"[19]\n",
     }
 }

@@ -1,6 +1,6 @@
 use Rattle.outside.specs.Seen.{seen}
 use Rattle.command_model.proofs.CreateLemmas.{other_err}
-use Rattle.commands.proofs.ScriptLemmas.{opened_text, ran_halted, ran_opened}
+use Rattle.commands.proofs.ScriptLemmas.{opened_short, opened_text, ran_halted, ran_opened}
 use Rattle.commands.proofs.script.open_script.Goals as goal
 
 pub returns-in_err-bytes-clause-ran : goal.returns-in_err-bytes-clause-ran
@@ -17,3 +17,6 @@ returns-clause-ran g c = λ depot.
 pub returns-clause-text : goal.returns-clause-text
 returns-clause-text g c =
     opened_text (g.I.Shelf.held c.args.inputs.now) c.args.file.now c.in_ok-bytes.bytes c.text_of.result c.in_ok-bytes.ensures.whole c.text_of.ensures
+
+pub returns-clause-short : goal.returns-clause-short
+returns-clause-short g c = opened_short c.in_ok-bytes.bytes c.text_of.result c.in_ok-bytes.ensures.short c.text_of.ensures

@@ -2,7 +2,7 @@ use Rattle.std.proofs.Common.{map, string_bytes}
 use Rattle.command_words.specs.Command.{Request, call_of}
 use Rattle.command_words.specs.declared.status.Status.{Status}
 use Rattle.command_model.specs.World.{World, world}
-use Rattle.pinot_run.proofs.ScriptLemmas.{of_one, of_rows, of_script}
+use Rattle.pinot_run.proofs.ScriptLemmas.{of_one, of_rows, of_script, of_serve}
 use Rattle.pinot_run.proofs.run.run_command.Goals as goal
 
 pub returns : goal.returns
@@ -21,5 +21,6 @@ returns g c =
       touched = of_one _ request old ended new (λ command p. p.touched) does;
       reads = of_one _ request old ended new (λ command p. p.reads) does;
       script = of_script request old ended new does;
+      serve = of_serve request old ended new does;
       generates = of_rows request old ended new does;
     }

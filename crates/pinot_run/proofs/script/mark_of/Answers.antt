@@ -53,3 +53,9 @@ returns-in-WriteFault c = marked_two 16 (lit≤ tt) (lit< tt) (lit< tt) ∙ ap m
 
 pub returns-in-NoMemory : goal.returns-in-NoMemory
 returns-in-NoMemory c = marked_two 17 (lit≤ tt) (lit< tt) (lit< tt) ∙ ap mark_of (sym c.in-NoMemory.is)
+
+pub returns-in-CursorTaken : goal.returns-in-CursorTaken
+returns-in-CursorTaken c = marked_two 18 (lit≤ tt) (lit< tt) (lit< tt) ∙ ap mark_of (sym c.in-CursorTaken.is)
+
+pub returns-in-NoCursor : goal.returns-in-NoCursor
+returns-in-NoCursor c = marked_two 19 (lit≤ tt) (lit< tt) (lit< tt) ∙ ap mark_of (sym c.in-NoCursor.is)
