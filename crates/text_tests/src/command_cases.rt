@@ -3,20 +3,26 @@
 //! `file NAME TEXT`, `ones NAME COUNT` and `numbers NAME COUNT` give a file to be read by the
 //! commands after it, that text, a column of so many ones, or one of the numbers from 1 on;
 //! `multiples NAME FIRST COUNT` gives one of five columns, the numbers from FIRST on, their double,
-//! and so on up to their fivefold; `stored NAME TEXT` gives a published file of the store, and
-//! `segments COUNT` so many with names of segments' files, from `g1.seg` on. The calls that fail
-//! are `DEVICE:NUMBER`, with blanks between them, or `DEVICE:NUMBER..` for all from one on. In
-//! their place `then` keeps the devices of the command before, `again` keeps the published files
-//! alone, as after a restart, and `long` says of every input file that it is too long. `length 0`,
+//! and so on up to their fivefold, and `padded NAME COUNT TEXT` that text and so many blanks;
+//! `stored NAME TEXT` gives a published file of the store, and `segments COUNT` so many with names
+//! of segments' files, from `g1.seg` on. The calls that fail are `DEVICE:NUMBER`, with blanks
+//! between them, or `DEVICE:NUMBER..` for all from one on. In their place `then` keeps the devices
+//! of the command before, `again` keeps the published files alone, as after a restart, with calls
+//! that fail after it, if any, and `long` says of every input file that it is too long. `length 0`,
 //! `length + 1` and `length - 1` say something false of the length of every input file, the same
 //! with `stored` of that of every published file, and with `segments` of those with names of
-//! segments. A word `pad COUNT TEXT` is the text with so many bytes, by blanks at its end. The word
-//! `open?` opens the table, and `file?` shows its file.
+//! segments. A word `pad COUNT TEXT` is the text with so many bytes, by blanks at its end.
+//!
+//! The word `open?` opens the table, `file?` shows its file, and `names` the names of the published
+//! files. `noted FILE` serves a file with such names after each mark, and `cut DEVICE FILE` serves
+//! it over and over, with each call of that device failing, or each from one on with `DEVICE..`.
 
 use crate::cases::Report;
 use crate::counting::Span;
 use crate::devices::{Devices, Files};
 use crate::escapes::unescaped;
+use crate::noting::Noted;
+use crate::stops::Cuts;
 use crate::text::{Text, meaning, number, parted, string};
 use outside::{Name, Seq};
 use std::alloc::Global;
@@ -30,6 +36,7 @@ enum Gift {
     Ones,
     Numbers,
     Multiples,
+    Padded,
     Segments,
     Span,
 }
@@ -40,6 +47,7 @@ const GIFTS: &[(&str, Gift)] = &[
     ("ones", Gift::Ones),
     ("numbers", Gift::Numbers),
     ("multiples", Gift::Multiples),
+    ("padded", Gift::Padded),
     ("segments", Gift::Segments),
     ("span", Gift::Span),
 ];
@@ -50,12 +58,18 @@ enum Question {
     Open,
     File,
     Reads,
+    Names,
+    Noted,
+    Cut,
 }
 
 const QUESTIONS: &[(&str, Question)] = &[
     ("open?", Question::Open),
     ("file?", Question::File),
     ("reads", Question::Reads),
+    ("names", Question::Names),
+    ("noted", Question::Noted),
+    ("cut", Question::Cut),
 ];
 
 // A column `k` of so many ones.
@@ -99,6 +113,15 @@ fn multiples(alloc: Global, first: u32, count: u32) -> Vec<u8> {
     text.into_string().into_bytes()
 }
 
+// A text and so many blanks after it.
+fn with_blanks(alloc: Global, text: &str, count: u32) -> Vec<u8> {
+    let mut bytes = unescaped(alloc, text);
+    for _ in 0..count {
+        let _pushed = bytes.push(b' ');
+    }
+    bytes
+}
+
 // The text of a word, with blanks at its end until it has so many bytes.
 fn padded(alloc: Global, text: &str, size: u32) -> String {
     let mut word = string(alloc, text);
@@ -128,12 +151,21 @@ fn words_of(alloc: Global, text: &str) -> Vec<String> {
     words
 }
 
+/// The words `serve FILE`.
+pub fn serve_words(alloc: Global, file: &str) -> Vec<String> {
+    let mut words = Vec::new(alloc);
+    let _verb = words.push(string(alloc, "serve"));
+    let _file = words.push(string(alloc, file));
+    words
+}
+
 fn add_file(alloc: Global, files: &mut Files, name: &str, bytes: Vec<u8>) {
     let name = Name::from_text(alloc, name).unwrap_or(Name::new(alloc));
     let _added = files.push((name, Seq::from_vec(bytes)));
 }
 
-fn copies(alloc: Global, files: &Files) -> Files {
+/// Copies of files.
+pub fn copies(alloc: Global, files: &Files) -> Files {
     let mut all = Seq::new(alloc);
     for (name, bytes) in files.as_slice() {
         let bytes = bytes.as_slice().to_vec(alloc).unwrap_or(Vec::new(alloc));
@@ -150,20 +182,22 @@ fn span(alloc: Global, label: &str, text: &str) -> Span {
     Span::new(alloc, label, file, ends)
 }
 
-// The files of the commands to come.
+/// The files of the commands to come, and who is told of the names of those that are published.
 #[derive(Drop)]
-struct Given {
+pub struct Given<'a> {
     files: Files,
     stored: Files,
     spans: Vec<Span>,
+    noted: &'a Noted,
 }
 
-impl Given {
-    fn new(alloc: Global) -> Given {
+impl<'a> Given<'a> {
+    fn new(alloc: Global, noted: &'a Noted) -> Given<'a> {
         Given {
             files: Seq::new(alloc),
             stored: Seq::new(alloc),
             spans: Vec::new(alloc),
+            noted,
         }
     }
 
@@ -180,6 +214,11 @@ impl Given {
                 let rows = multiples(alloc, number(first), number(count));
                 add_file(alloc, &mut self.files, name, rows);
             }
+            Gift::Padded => {
+                let (count, text) = parted(rest, ' ');
+                let bytes = with_blanks(alloc, text, number(count));
+                add_file(alloc, &mut self.files, name, bytes);
+            }
             Gift::Segments => add_segments(alloc, &mut self.stored, number(name)),
             Gift::Span => {
                 let _added = self.spans.push(span(alloc, name, rest));
@@ -188,14 +227,14 @@ impl Given {
     }
 
     // The devices as they are before the commands to come.
-    fn devices(&self, alloc: Global, calls: &str) -> Devices {
+    fn devices(&self, alloc: Global, calls: &str) -> Devices<'a> {
         self.devices_over(alloc, copies(alloc, &self.stored), calls)
     }
 
-    // The devices with these published files.
-    fn devices_over(&self, alloc: Global, stored: Files, calls: &str) -> Devices {
-        let files = copies(alloc, &self.files);
-        Devices::new(alloc, files, stored, self.spans.as_slice(), calls)
+    /// The devices with these published files.
+    pub fn devices_over(&self, alloc: Global, stored: Files, calls: &str) -> Devices<'a> {
+        let files = (copies(alloc, &self.files), stored);
+        Devices::new(alloc, files, self.spans.as_slice(), calls, self.noted)
     }
 }
 
@@ -216,43 +255,64 @@ fn add_segments(alloc: Global, files: &mut Files, count: u32) {
     }
 }
 
-// Adds what comes of the words of a case.
-fn answer(alloc: Global, devices: &mut Devices, text: &str, out: &Text) {
-    let (word, rest) = parted(text, ' ');
-    match meaning(QUESTIONS, word) {
-        Some(Question::Open) => devices.open(alloc, out),
-        Some(Question::File) => devices.table_file(alloc, out),
-        Some(Question::Reads) => devices.reads(rest, out),
-        None => {
-            let words = words_of(alloc, text);
-            devices.run(alloc, words.as_slice(), out);
-            drop(words);
-        }
-    }
+// Serves a file, with the names of the published files after each mark.
+fn serve_noted(alloc: Global, devices: &mut Devices<'_>, file: &str, out: &Text) {
+    let words = serve_words(alloc, file);
+    devices.run_noted(alloc, words.as_slice(), out);
+    drop(words);
 }
 
 // The files of the commands to come, and the devices of the last one.
 #[derive(Drop)]
-struct Run {
-    given: Given,
-    devices: Devices,
+struct Run<'a> {
+    given: Given<'a>,
+    devices: Devices<'a>,
 }
 
-impl Run {
-    fn new(alloc: Global) -> Run {
-        let given = Given::new(alloc);
+impl<'a> Run<'a> {
+    fn new(alloc: Global, noted: &'a Noted) -> Run<'a> {
+        let given = Given::new(alloc, noted);
         let devices = given.devices(alloc, "");
         Run { given, devices }
     }
 
     fn renew(&mut self, alloc: Global, calls: &str) {
-        let devices = if calls == "again" {
-            let stored = self.devices.published(alloc);
-            self.given.devices_over(alloc, stored, "")
-        } else {
-            self.given.devices(alloc, calls)
+        let devices = match calls.strip_prefix("again") {
+            Some(calls) => {
+                let stored = self.devices.published(alloc);
+                self.given.devices_over(alloc, stored, calls.trim_start())
+            }
+            None => self.given.devices(alloc, calls),
         };
         drop(mem::replace(&mut self.devices, devices));
+    }
+
+    // Adds what comes of the words of a case.
+    fn answer(&mut self, alloc: Global, text: &str, out: &Text) {
+        let (word, rest) = parted(text, ' ');
+        match meaning(QUESTIONS, word) {
+            Some(Question::Open) => self.devices.open(alloc, out),
+            Some(Question::File) => self.devices.table_file(alloc, out),
+            Some(Question::Reads) => self.devices.reads(rest, out),
+            Some(Question::Names) => self.devices.names(alloc, out),
+            Some(Question::Noted) => serve_noted(alloc, &mut self.devices, rest, out),
+            Some(Question::Cut) => self.cut(alloc, rest, out),
+            None => {
+                let words = words_of(alloc, text);
+                self.devices.run(alloc, words.as_slice(), out);
+                drop(words);
+            }
+        }
+    }
+
+    // Serves a file over the published files, cut off at each call of a device in turn.
+    fn cut(&self, alloc: Global, text: &str, out: &Text) {
+        let (device, file) = parted(text, ' ');
+        let stored = self.devices.published(alloc);
+        let cuts = Cuts::new(alloc, &self.given, &stored, device, file);
+        cuts.run(alloc, out);
+        drop(cuts);
+        drop(stored);
     }
 
     fn case(&mut self, alloc: Global, line: &str, report: &Report) {
@@ -261,7 +321,7 @@ impl Run {
         if calls != "then" {
             self.renew(alloc, calls);
         }
-        answer(alloc, &mut self.devices, words, report.found);
+        self.answer(alloc, words, report.found);
         report.end_case(alloc, expected, line);
     }
 
@@ -280,9 +340,11 @@ impl Run {
 
 /// Runs the cases of a file, in their order.
 pub fn run_commands(alloc: Global, file: &str, report: &Report) {
-    let mut run = Run::new(alloc);
+    let noted = Noted::new(alloc);
+    let mut run = Run::new(alloc, &noted);
     for line in file.lines() {
         run.line(alloc, line, report);
     }
     drop(run);
+    drop(noted);
 }

@@ -1,6 +1,7 @@
 //! A depot in memory that counts what is read of some parts of its files, and of whose lengths
 //! something false may be said.
 
+use crate::noting::Noted;
 use crate::text::{Text, string};
 use crate::told::Told;
 use memory_devices::MemoryDepot;
@@ -64,29 +65,41 @@ pub fn fresh_spans(alloc: Global, spans: &[Span]) -> Vec<Span> {
     fresh
 }
 
-/// A depot in memory, what was read of spans of its files, and what is said of the lengths of those
-/// whose names end so.
+/// A depot in memory, what was read of spans of its files, what is said of the lengths of those
+/// whose names end so, and who is told of the names as they change.
 #[derive(Drop)]
-pub struct CountingDepot {
+pub struct CountingDepot<'a> {
     depot: MemoryDepot,
     spans: Vec<Span>,
     told: Told,
     ending: &'static str,
+    noted: &'a Noted,
 }
 
-impl CountingDepot {
+impl<'a> CountingDepot<'a> {
     /// A depot of which the reads of these spans are counted from now on, and of whose files with
     /// names of this end something is said of the lengths.
     pub fn new(
         depot: MemoryDepot,
         spans: Vec<Span>,
         (ending, told): (&'static str, Told),
-    ) -> CountingDepot {
+        noted: &'a Noted,
+    ) -> CountingDepot<'a> {
         CountingDepot {
             depot,
             spans,
             told,
             ending,
+            noted,
+        }
+    }
+
+    // Tells of the names, where they are noted.
+    fn note(&self, alloc: Global) {
+        if self.noted.is_on() {
+            let files = self.files(alloc).unwrap_or(Seq::new(alloc));
+            self.noted.set(files.as_slice());
+            drop(files);
         }
     }
 
@@ -124,7 +137,7 @@ fn count_all(spans: &mut [Span], file: &str, offset: u64, count: u64) {
     }
 }
 
-impl Shelf for CountingDepot {
+impl<'a> Shelf for CountingDepot<'a> {
     ghost use Rattle.std.specs.Prelude.{None};
 
     ghost held = { λ _. None };
@@ -156,7 +169,7 @@ impl Shelf for CountingDepot {
     }
 }
 
-impl Depot for CountingDepot {
+impl<'a> Depot for CountingDepot<'a> {
     ghost use Rattle.std.specs.Prelude.{refl};
 
     ghost tells_both = { λ _. (λ e. e, λ e. e) };
@@ -170,10 +183,14 @@ impl Depot for CountingDepot {
     }
 
     fn publish(&mut self, alloc: Global, part: &str, name: &str) -> Result<(), DepotFault> {
-        self.depot.publish(alloc, part, name)
+        self.depot.publish(alloc, part, name)?;
+        self.note(alloc);
+        Ok(())
     }
 
     fn remove(&mut self, alloc: Global, name: &str) -> Result<(), DepotFault> {
-        self.depot.remove(alloc, name)
+        self.depot.remove(alloc, name)?;
+        self.note(alloc);
+        Ok(())
     }
 }

@@ -2,6 +2,7 @@
 
 use crate::counting::{CountingDepot, Span, fresh_spans};
 use crate::inputs::Inputs;
+use crate::noting::{Noted, NotingSink, add_names};
 use crate::text::{Text, meaning, number, parted};
 use crate::told::Told;
 use memory_devices::{MemoryDepot, MemoryShelf, MemorySink};
@@ -15,17 +16,19 @@ pub type Files = Seq<(Name, Bytes)>;
 
 /// The stream of replies and that of notes.
 #[derive(Drop)]
-struct Streams {
-    out: MemorySink,
+struct Streams<'a> {
+    out: NotingSink<'a>,
     notes: MemorySink,
 }
 
-/// The input files, the store and the two streams, each where there was memory for it.
+/// The input files, the store and the two streams, each where there was memory for it, and the
+/// names of the store.
 #[derive(Drop)]
-pub struct Devices {
+pub struct Devices<'a> {
     inputs: Result<Inputs, NoMemory>,
-    depot: Result<CountingDepot, NoMemory>,
-    streams: Result<Streams, NoMemory>,
+    depot: Result<CountingDepot<'a>, NoMemory>,
+    streams: Result<Streams<'a>, NoMemory>,
+    noted: &'a Noted,
 }
 
 // The most bytes that a stream takes.
@@ -87,10 +90,10 @@ fn stream(alloc: Global, calls: &str, device: &str) -> Result<MemorySink, NoMemo
     MemorySink::with_room(alloc, ROOM, failing(alloc, calls, device))
 }
 
-impl Streams {
+impl<'a> Streams<'a> {
     // Streams of which these calls fail.
-    fn new(alloc: Global, calls: &str) -> Result<Streams, NoMemory> {
-        let out = stream(alloc, calls, "out")?;
+    fn new(alloc: Global, calls: &str, noted: &'a Noted) -> Result<Streams<'a>, NoMemory> {
+        let out = NotingSink::new(stream(alloc, calls, "out")?, noted);
         let notes = stream(alloc, calls, "notes")?;
         Ok(Streams { out, notes })
     }
@@ -113,8 +116,8 @@ fn run_over(
     alloc: Global,
     words: &[String],
     inputs: &mut Inputs,
-    depot: &mut CountingDepot,
-    streams: &mut Streams,
+    depot: &mut CountingDepot<'_>,
+    streams: &mut Streams<'_>,
 ) -> u8 {
     let status = run_command(
         alloc,
@@ -128,18 +131,20 @@ fn run_over(
 }
 
 // A store of these files, of which these calls fail and the reads of these spans are counted.
-fn store(
+fn store<'a>(
     alloc: Global,
     stored: Files,
     spans: &[Span],
     calls: &str,
-) -> Result<CountingDepot, NoMemory> {
+    noted: &'a Noted,
+) -> Result<CountingDepot<'a>, NoMemory> {
     let depot = match stop(calls) {
         Some(after) => MemoryDepot::stopping(alloc, stored, after)?,
         None => MemoryDepot::new(alloc, stored, failing(alloc, calls, "depot"))?,
     };
     let told = meaning(STORED_LENGTHS, calls).unwrap_or(("", Told::Truth));
-    Ok(CountingDepot::new(depot, fresh_spans(alloc, spans), told))
+    let spans = fresh_spans(alloc, spans);
+    Ok(CountingDepot::new(depot, spans, told, noted))
 }
 
 // Input files, of which these calls fail.
@@ -149,17 +154,24 @@ fn inputs_of(alloc: Global, files: Files, calls: &str) -> Result<Inputs, NoMemor
     Ok(Inputs { files, told })
 }
 
-impl Devices {
+impl<'a> Devices<'a> {
     /// Devices with these input files and published files. The calls that fail are
     /// `DEVICE:NUMBER`, from 0 on, with blanks between them, or `DEVICE:NUMBER..` for all from one
     /// on; in their place `long`, `length 0`, `length + 1` or `length - 1` is what is said of each
     /// input file's length, and so with `stored` of each published file's, or with `segments` of
     /// each segment's.
-    pub fn new(alloc: Global, files: Files, stored: Files, spans: &[Span], calls: &str) -> Devices {
+    pub fn new(
+        alloc: Global,
+        (files, stored): (Files, Files),
+        spans: &[Span],
+        calls: &str,
+        noted: &'a Noted,
+    ) -> Devices<'a> {
         Devices {
             inputs: inputs_of(alloc, files, calls),
-            depot: store(alloc, stored, spans, calls),
-            streams: Streams::new(alloc, calls),
+            depot: store(alloc, stored, spans, calls, noted),
+            streams: Streams::new(alloc, calls, noted),
+            noted,
         }
     }
 
@@ -179,6 +191,23 @@ impl Devices {
         out.add_count(u64::from(status));
         out.add(" ");
         streams.show_added(starts, out);
+    }
+
+    /// Runs a command as `run` does, but each mark among the replies is followed by a line with the
+    /// names of the files that are published then.
+    pub fn run_noted(&mut self, alloc: Global, words: &[String], out: &Text) {
+        let files = self.published(alloc);
+        self.noted.begin(files.as_slice());
+        drop(files);
+        self.run(alloc, words, out);
+        self.noted.end();
+    }
+
+    /// Adds the names of the published files.
+    pub fn names(&self, alloc: Global, out: &Text) {
+        let files = self.published(alloc);
+        add_names(files.as_slice(), out);
+        drop(files);
     }
 
     /// The published files of the store, none where there is no memory for them.
