@@ -19,15 +19,17 @@ pub fn add_names(files: &[(Name, Bytes)], out: &Text) {
 /// The names of a store's published files, kept up to date while they are noted.
 #[derive(Drop)]
 pub struct Noted {
+    alloc: Global,
     is_on: Cell<bool>,
-    names: Text,
+    names: Cell<String>,
 }
 
 impl Noted {
     pub fn new(alloc: Global) -> Noted {
         Noted {
+            alloc,
             is_on: Cell::new(false),
-            names: Text::new(alloc),
+            names: Cell::new(String::new(alloc)),
         }
     }
 
@@ -45,11 +47,17 @@ impl Noted {
         self.is_on.set(false);
     }
 
+    // Takes the names. They are to be put back.
+    fn take(&self) -> String {
+        self.names.replace(String::new(self.alloc))
+    }
+
     /// These are published now.
     pub fn set(&self, files: &[(Name, Bytes)]) {
-        drop(self.names.take());
-        add_names(files, &self.names);
-        self.names.add("\n");
+        let names = Text::new(self.alloc);
+        add_names(files, &names);
+        names.add("\n");
+        self.names.set(names.into_string());
     }
 }
 
@@ -83,10 +91,9 @@ impl<'a> Sink for NotingSink<'a> {
         if !self.noted.is_on() || !bytes.starts_with(b"[") {
             return Ok(());
         }
-        let names = self.noted.names.take();
+        let names = self.noted.take();
         let noted = self.sink.put(names.as_bytes());
-        self.noted.names.add(names.as_str());
-        drop(names);
+        self.noted.names.set(names);
         noted
     }
 }
