@@ -12,12 +12,14 @@ mod cases;
 mod counting;
 mod heads;
 mod images;
+mod lookups;
 mod noting;
 mod others;
 
-use cases::{Look, run_cases};
+use cases::{Look, Report, run_cases};
 use counting::CountingShelf;
 use host_devices::FolderDepot;
+use lookups::look_up_damaged;
 use others::run_others;
 use schema_json::read_schema;
 use settings_json::read_settings;
@@ -39,6 +41,10 @@ fn run_text(
 {
     let report = run_cases(rt.alloc(), look, table, name, file, cases)?;
     println!(rt; "{} cases", report.count)?;
+    show_wrong(rt, &report)
+}
+
+fn show_wrong(rt: &HostRuntime, report: &Report) -> io::Result<()> {
     for line in &report.wrong {
         println!(rt; "wrong: {line}")?;
     }
@@ -105,8 +111,25 @@ fn run_with_tree(rt: &HostRuntime) -> io::Result<()> {
     let schema = fs::read(rt, "V1.schema.json")?;
     let settings = fs::read(rt, "V1.settings.json")?;
     match table_of(rt.alloc(), schema.as_slice(), settings.as_slice()) {
-        Some(table) => run(rt, &table, "V1"),
+        Some(table) => {
+            run(rt, &table, "V1")?;
+            run_lookups(rt, &table)
+        }
         None => println!(rt; "no table of V1"),
+    }
+}
+
+// Look-ups in its dictionaries, which have the bytes from 298 up to 434.
+fn run_lookups(rt: &HostRuntime, table: &Table) -> io::Result<()>
+    requires { IsValidTable table.now }
+{
+    let file = fs::read(rt, "V1.seg")?;
+    match look_up_damaged(rt.alloc(), table, "V1", file.as_slice(), (298, 434))? {
+        Some(report) => {
+            println!(rt; "looked up: {} times", report.count)?;
+            show_wrong(rt, &report)
+        }
+        None => println!(rt; "no head of V1"),
     }
 }
 

@@ -3,7 +3,8 @@
 //! `file NAME TEXT`, `ones NAME COUNT` and `numbers NAME COUNT` give a file to be read by the
 //! commands after it, that text, a column of so many ones, or one of the numbers from 1 on;
 //! `multiples NAME FIRST COUNT` gives one of five columns, the numbers from FIRST on, their double,
-//! and so on up to their fivefold; `stored NAME TEXT` gives a published file of the store, and
+//! and so on up to their fivefold; `texts NAME FIRST COUNT` gives one of two columns, the numbers
+//! from FIRST on and each as a text after a `t`; `stored NAME TEXT` gives a published file of the store, and
 //! `segments COUNT` so many with names of segments' files, from `g1.seg` on. The calls that fail
 //! are `DEVICE:NUMBER`, with blanks between them, or `DEVICE:NUMBER..` for all from one on. In
 //! their place `then` keeps the devices of the command before, `again` keeps the published files
@@ -30,6 +31,7 @@ enum Gift {
     Ones,
     Numbers,
     Multiples,
+    Texts,
     Segments,
     Span,
 }
@@ -40,6 +42,7 @@ const GIFTS: &[(&str, Gift)] = &[
     ("ones", Gift::Ones),
     ("numbers", Gift::Numbers),
     ("multiples", Gift::Multiples),
+    ("texts", Gift::Texts),
     ("segments", Gift::Segments),
     ("span", Gift::Span),
 ];
@@ -95,6 +98,25 @@ fn multiples(alloc: Global, first: u32, count: u32) -> Vec<u8> {
     text.add("k,a,b,c,d\n");
     for at in 0..count {
         add_multiples(&text, u64::from(first) + u64::from(at));
+    }
+    text.into_string().into_bytes()
+}
+
+// A row of a number as a text, and the number.
+fn add_spelled(text: &Text, key: u64) {
+    text.add("t");
+    text.add_count(key);
+    text.add(",");
+    text.add_count(key);
+    text.add("\n");
+}
+
+// Columns `k` and `a`: numbers from one on as texts, and as numbers.
+fn texts(alloc: Global, first: u32, count: u32) -> Vec<u8> {
+    let text = Text::new(alloc);
+    text.add("k,a\n");
+    for at in 0..count {
+        add_spelled(&text, u64::from(first) + u64::from(at));
     }
     text.into_string().into_bytes()
 }
@@ -178,6 +200,11 @@ impl Given {
             Gift::Multiples => {
                 let (first, count) = parted(rest, ' ');
                 let rows = multiples(alloc, number(first), number(count));
+                add_file(alloc, &mut self.files, name, rows);
+            }
+            Gift::Texts => {
+                let (first, count) = parted(rest, ' ');
+                let rows = texts(alloc, number(first), number(count));
                 add_file(alloc, &mut self.files, name, rows);
             }
             Gift::Segments => add_segments(alloc, &mut self.stored, number(name)),
