@@ -168,12 +168,15 @@ module _ (query asked : BoundQuery) (table : Table) (segment : Stored) (head : S
     -- where no range index is asked, the head with ids is refused for the query too
     fails_given : (held : Option Files) → Can held → (part : Part) → IsBadIn asked table held given part → (choice_of table.settings given (One column by.test) ≡ Range → ⊥) → FailsInRows query table held segment part
     fails_given held can part bad never =
-        let near : IsNear (choice_of table.settings given (One column by.test)) (choice_of table.settings given (One column can.test)) = near_by is_sorted is_inverted is_ranged (follows given by.test) (follows given can.test) never in
-        (given, opened_with (ids_below count) held can (no_image held can part bad), inl (
-          can.unpicked,
-          bad_moved head column (ids_below count) (ids_below count) (λ k. refl) query asked can.test ids can.alone by table held part
-              (choice_of table.settings given (One column by.test)) (choice_of table.settings given (One column can.test)) refl refl near bad bad.1,
-        ))
+        let near : IsNear (choice_of table.settings given (One column by.test)) (choice_of table.settings given (One column can.test)) = near_by is_sorted is_inverted is_ranged (follows given by.test) (follows given can.test) never in (
+          given,
+          opened_with (ids_below count) held can (no_image held can part bad),
+          inl (
+            can.unpicked,
+            bad_moved head column (ids_below count) (ids_below count) (λ k. refl) query asked can.test ids can.alone by table held part
+                (choice_of table.settings given (One column by.test)) (choice_of table.settings given (One column can.test)) refl refl near bad bad.1,
+          ),
+        )
 
     -- else one that has so many copies of a value that satisfies the test
     fails_ranged : (held : Option Files) → Can held → (part : Part) → IsBadIn asked table held given part → choice_of table.settings given (One column by.test) ≡ Range → FailsInRows query table held segment part
@@ -190,12 +193,15 @@ module _ (query asked : BoundQuery) (table : Table) (segment : Stored) (head : S
         let all : follows copied can.test ≡ true =
         ap (λ vs. are_consecutive (matching can.test vs)) (set_values table head column of within (copies count v)) ∙ copies_consecutive can.test v can.met.1 count some in
         let own : choice_of table.settings copied (One column can.test) ≡ Range =
-        (λ i. choice_by is_sorted is_inverted is_ranged (all i)) ∙ range_still is_sorted is_inverted is_ranged (follows given by.test) ranged in
-        (copied, opened_with (copies count v) held can (no_image held can part bad), inl (
-          can.unpicked,
-          bad_moved head column (ids_below count) (copies count v) (counts_alike table head column (ids_below count) (copies count v) of within long) query asked can.test ids can.alone by table held part
-              Range Range ranged own (inl refl) bad (never held v of within some),
-        ))
+        (λ i. choice_by is_sorted is_inverted is_ranged (all i)) ∙ range_still is_sorted is_inverted is_ranged (follows given by.test) ranged in (
+          copied,
+          opened_with (copies count v) held can (no_image held can part bad),
+          inl (
+            can.unpicked,
+            bad_moved head column (ids_below count) (copies count v) (counts_alike table head column (ids_below count) (copies count v) of within long) query asked can.test ids can.alone by table held part
+                Range Range ranged own (inl refl) bad (never held v of within some),
+          ),
+        )
       where
         never : (h : Option Files) (v : Value) → IsHeadOf table head → column < length table.schema.fields → 0 < count → IsNoImage table h (with_dictionary column (copies count v) head)
         never None v of within some = tt

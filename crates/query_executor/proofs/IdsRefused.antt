@@ -44,7 +44,7 @@ use Rattle.query_executor.proofs.IdsAlike.{choice_by, choices_one, rest_same}
 
 -- ---- copies of a value, which no whole head has
 
-pub misfit : Value → FieldKind
+abbrev pub misfit : Value → FieldKind
 misfit (Whole number) = kind.Text
 misfit (Text text) = kind.Long
 

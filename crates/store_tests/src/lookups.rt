@@ -1,7 +1,8 @@
 //! Look-ups in the dictionaries of the segment `V1`, each where its file has them as they are and
 //! where they are damaged after the head was opened. Each has to end, with an answer or with the
-//! refusal of its dictionary; of one that is as it was with the right answer; and to read no more
-//! than the count, and of each value that it looks at what a text takes at most.
+//! refusal of its dictionary, or of the head where a file that was cut has no count; of one that is
+//! as it was with the right answer; and to read no more than the count, and of each value that it
+//! looks at what a text takes at most.
 ghost use Rattle.segment_head.specs.Heads.{IsHeadOf};
 ghost use Rattle.table_schema.specs.ValidTable.{IsValidTable};
 
@@ -40,37 +41,34 @@ struct Lookup {
     ids: &'static [u32],
 }
 
-const fn of(column: u16, asked: Asked, ids: &'static [u32]) -> Lookup {
-    Lookup { column, asked, ids }
-}
-
-// The values of the columns are CA, MX and USA; Chrome, Firefox and Safari; en, es and fr; 100,
-// 200, 300, 400 and 600.
-const LOOKUPS: &[Lookup] = &[
-    of(0, Asked::Equal("MX"), &[1]),
-    of(0, Asked::Between("CB", "USA"), &[1, 2]),
-    of(0, Asked::OneOf(&["CA", "UK", "USA"]), &[0, 2]),
-    of(0, Asked::Values(&["CA", "MX", "USA"]), &[0, 1, 2]),
-    of(1, Asked::Equal("Opera"), &[]),
-    of(1, Asked::Between("Chrome", "Firefox"), &[0, 1]),
-    of(1, Asked::OneOf(&["Safari", "Chrome", "Firefox"]), &[0, 1, 2]),
-    of(1, Asked::Values(&["Firefox", "Safari"]), &[1, 2]),
-    of(2, Asked::Equal("fr"), &[2]),
-    of(2, Asked::Between("eo", "et"), &[1]),
-    of(2, Asked::OneOf(&["de", "en", "it"]), &[0]),
-    of(2, Asked::Values(&["en", "fr"]), &[0, 2]),
-    of(3, Asked::Equal("300"), &[2]),
-    of(3, Asked::Between("150", "400"), &[1, 2, 3]),
-    of(3, Asked::OneOf(&["600", "100", "500"]), &[0, 4]),
-    of(3, Asked::Values(&["200", "600"]), &[1, 4]),
+// Questions of columns, with their ids. The values of the columns are CA, MX and USA; Chrome,
+// Firefox and Safari; en, es and fr; 100, 200, 300, 400 and 600.
+const LOOKUPS: &[(u16, Asked, &[u32])] = &[
+    (0, Asked::Equal("MX"), &[1]),
+    (0, Asked::Between("CB", "USA"), &[1, 2]),
+    (0, Asked::OneOf(&["CA", "UK", "USA"]), &[0, 2]),
+    (0, Asked::Values(&["CA", "MX", "USA"]), &[0, 1, 2]),
+    (1, Asked::Equal("Opera"), &[]),
+    (1, Asked::Between("Chrome", "Firefox"), &[0, 1]),
+    (1, Asked::OneOf(&["Safari", "Chrome"]), &[0, 2]),
+    (1, Asked::Values(&["Firefox", "Safari"]), &[1, 2]),
+    (2, Asked::Equal("fr"), &[2]),
+    (2, Asked::Between("eo", "et"), &[1]),
+    (2, Asked::OneOf(&["de", "en", "it"]), &[0]),
+    (2, Asked::Values(&["en", "fr"]), &[0, 2]),
+    (3, Asked::Equal("300"), &[2]),
+    (3, Asked::Between("150", "400"), &[1, 2, 3]),
+    (3, Asked::OneOf(&["600", "100", "500"]), &[0, 4]),
+    (3, Asked::Values(&["200", "600"]), &[1, 4]),
 ];
 
 // What came of a question.
-#[derive(Clone, Copy, PartialEq, Eq)]
+#[derive(Clone, Copy)]
 enum Outcome {
     Right,
     Other,
     Refused,
+    Ended,
     Failed,
 }
 
@@ -169,6 +167,7 @@ impl Lookup {
     {
         match self.ask(alloc, shelf, table, head) {
             Ok(outcome) => outcome,
+            Err(HeadFault::NotASegment(Part::Head)) => Outcome::Ended,
             Err(HeadFault::NotASegment(Part::Dictionary(column))) => {
                 if column == self.column {
                     Outcome::Refused
@@ -218,6 +217,16 @@ impl Damage {
         }
     }
 
+    // Whether this may come of a question, of a dictionary that it leaves as it is or not.
+    fn allows(self, outcome: Outcome, spared: bool) -> bool {
+        match outcome {
+            Outcome::Right => true,
+            Outcome::Other | Outcome::Refused => !spared,
+            Outcome::Ended => !spared && matches!(self, Damage::Cut(_)),
+            Outcome::Failed => false,
+        }
+    }
+
     fn line(self, alloc: Global, column: u16) -> Result<String, AllocError> {
         match self {
             Damage::Cut(at) => format!(in alloc; "column {column}, cut {at}"),
@@ -239,12 +248,13 @@ impl Report {
         requires { IsHeadOf table.now head.now }
     {
         let mut shelf = CountingShelf::new(damage.done(alloc, file)?);
-        for lookup in LOOKUPS {
+        for &(column, asked, ids) in LOOKUPS {
+            let lookup = Lookup { column, asked, ids };
             let outcome = lookup.outcome(alloc, &mut shelf, table, head);
             let beyond = shelf.taken() > lookup.asked.most();
             let spared = damage.spares_column(head, lookup.column);
             self.count = self.count.saturating_add(1);
-            if beyond || outcome == Outcome::Failed || (spared && outcome != Outcome::Right) {
+            if beyond || !damage.allows(outcome, spared) {
                 self.wrong.push(damage.line(alloc, lookup.column)?)?;
             }
         }
@@ -258,10 +268,11 @@ fn damaged(
     table: &Table,
     head: &Head,
     file: &[u8],
-    (from, to): (usize, usize),
+    ends: (usize, usize),
 ) -> Result<Report, AllocError>
     requires { IsHeadOf table.now head.now }
 {
+    let (from, to) = ends;
     let mut report = Report {
         count: 0,
         wrong: Vec::new(alloc),

@@ -4,8 +4,9 @@
 //! commands after it, that text, a column of so many ones, or one of the numbers from 1 on;
 //! `multiples NAME FIRST COUNT` gives one of five columns, the numbers from FIRST on, their double,
 //! and so on up to their fivefold; `texts NAME FIRST COUNT` gives one of two columns, the numbers
-//! from FIRST on and each as a text after a `t`; `stored NAME TEXT` gives a published file of the store, and
-//! `segments COUNT` so many with names of segments' files, from `g1.seg` on. The calls that fail
+//! from FIRST on and each as a text after a `t`; `stored NAME TEXT` gives a published file of the
+//! store, and `segments COUNT` so many with names of segments' files, from `g1.seg` on. The calls
+//! that fail
 //! are `DEVICE:NUMBER`, with blanks between them, or `DEVICE:NUMBER..` for all from one on. In
 //! their place `then` keeps the devices of the command before, `again` keeps the published files
 //! alone, as after a restart, and `long` says of every input file that it is too long. `length 0`,
