@@ -78,10 +78,10 @@ number_later number zero lists e = e
 number_later number (suc n) [] e = e
 number_later number (suc n) (listed ∷ lists) e = or_true (nat_eq listed.version.number number) (has_number number lists) (number_later number n lists e)
 
-abbrev HasOwn : List Listed → Listed → Type 0
+abbrev pub HasOwn : List Listed → Listed → Type 0
 HasOwn lists listed = has_number listed.version.number lists ≡ true
 
-all_own : (lists : List Listed) → AllByRecursion (HasOwn lists) lists
+pub all_own : (lists : List Listed) → AllByRecursion (HasOwn lists) lists
 all_own [] = tt
 all_own (listed ∷ lists) = (
   ap (λ b. b || has_number listed.version.number lists) (same_number listed.version.number),
@@ -113,13 +113,13 @@ all_found P (e ∷ es) sorted each = (
   all_found P es (parts (below_all name_order e.0 es) (is_sorted name_order es) sorted).1 (λ q x found. each q x (find_later e es q x sorted found)),
 )
 
-record IsFound {X : Type 0} (p : X → Bool) (es : List (List ℕ × X)) : Type 0 where
-  name : List ℕ
-  value : X
-  found : find name_order name es ≡ Some value
-  passes : p value ≡ true
+pub record IsFound {X : Type 0} (p : X → Bool) (es : List (List ℕ × X)) : Type 0 where
+  pub name : List ℕ
+  pub value : X
+  pub found : find name_order name es ≡ Some value
+  pub passes : p value ≡ true
 
-any_found : {X : Type 0} (p : X → Bool) (es : List (List ℕ × X)) → T (is_sorted name_order es) → list_any p (map (λ e. e.1) es) ≡ true → IsFound p es
+pub any_found : {X : Type 0} (p : X → Bool) (es : List (List ℕ × X)) → T (is_sorted name_order es) → list_any p (map (λ e. e.1) es) ≡ true → IsFound p es
 any_found p [] sorted any = absurd (false≢true any)
 any_found p (e ∷ es) sorted any = elim (or_either (p e.1) (list_any p (map (λ e. e.1) es)) any) [
   | inl here ↦ record { name = e.0; value = e.1; found = ap (λ b. cond b (Some e.1) (find name_order e.0 es)) (itself e.0); passes = here }
@@ -182,10 +182,10 @@ one_value x y e = cc
 abbrev Goes : Cursors → Cursors → Type 0
 Goes old new = (name : List ℕ) (cursor : Cursor) → finite.get old name ≡ Some cursor → (next : Cursor) × (finite.get new name ≡ Some next) × (next.lists ≡ cursor.lists)
 
-held_by : (number : ℕ) (cursors : Cursors) (name : List ℕ) (cursor : Cursor) → finite.get cursors name ≡ Some cursor → has_number number cursor.lists ≡ true → is_held number cursors ≡ true
+pub held_by : (number : ℕ) (cursors : Cursors) (name : List ℕ) (cursor : Cursor) → finite.get cursors name ≡ Some cursor → has_number number cursor.lists ≡ true → is_held number cursors ≡ true
 held_by number cursors name cursor got has = found_any (λ c. has_number number c.lists) (finite.entries cursors) name cursor (sym (finite.get-entries cursors name) ∙ got) has
 
-awaited_by : (number : ℕ) (cursors : Cursors) (name : List ℕ) (cursor : Cursor) → finite.get cursors name ≡ Some cursor → has_number number (drop cursor.answered cursor.lists) ≡ true → is_awaited number cursors ≡ true
+pub awaited_by : (number : ℕ) (cursors : Cursors) (name : List ℕ) (cursor : Cursor) → finite.get cursors name ≡ Some cursor → has_number number (drop cursor.answered cursor.lists) ≡ true → is_awaited number cursors ≡ true
 awaited_by number cursors name cursor got has = found_any (λ c. has_number number (drop c.answered c.lists)) (finite.entries cursors) name cursor (sym (finite.get-entries cursors name) ∙ got) has
 
 held_still : (number : ℕ) (old new : Cursors) → Goes old new → is_held number old ≡ true → is_held number new ≡ true
@@ -266,7 +266,7 @@ among_passed p listed (k ∷ kept) passes (inr later) = elim (p k) as (λ b. IsA
   | false ↦ among_passed p listed kept passes later
 ]
 
-closes : (m : Machine) (other : List ℕ) → IsSound m
+pub closes : (m : Machine) (other : List ℕ) → IsSound m
     → IsSound (record m { cursors = finite.remove m.cursors other; kept = filter (λ k. is_held k.listed.version.number (finite.remove m.cursors other)) m.kept })
 closes m other is =
     let left : Cursors = finite.remove m.cursors other in

@@ -5,4 +5,5 @@ pub mod EntryLemmas
 pub mod SlotFrames
 mod PooledSteps
 pub mod NewKeys
+pub mod KeyPlaces
 mod AbsorbSteps

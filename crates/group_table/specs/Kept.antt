@@ -77,3 +77,8 @@ pub record Merges (key : List Value) (states : List AggState) (old new : KeptGro
 -- the key is new to the table
 abbrev pub IsNewKey : KeptGroups → List Value → Type 0
 IsNewKey table key = finite.get (groups_in table) key ≡ None
+
+-- with some rows there are more groups than there may be, and the table has as many as there may be
+pub record FillsUp (Overfull : Type 0) (most : ℕ) (new : KeptGroups) : Type 0 where
+  pub over : Overfull
+  pub filled : finite.len (groups_in new) ≡ most

@@ -9,7 +9,7 @@ use Rattle.agg_laws.specs.Rows.{RowFits}
 use Rattle.table_schema.specs.declared.query.BoundQuery.{BoundQuery}
 use Rattle.state_pool.specs.Pool.{Pool, Place, IsOut, Takes, held, kinds_at, quota_of, slots_of, states_at}
 use Rattle.group_table.specs.Groups.{Group, Groups, with_entries, with_states}
-use Rattle.group_table.specs.Kept.{KeptGroups, IsNew, IsTable, Merges, groups_in, key_eq}
+use Rattle.group_table.specs.Kept.{KeptGroups, IsNew, IsTable, Merges, group_at, groups_in, key_eq}
 
 -- how many group columns there are, whose slots hold the states, how many groups there may be, and
 -- the slot of each key
@@ -110,6 +110,11 @@ pub record Finds (key : List Value) (at : ℕ) (old : PooledTable) (old_pool : P
   pub found : ((lookup (key_eq key) old.slots ≡ Some (slot_at new at))
       × (new ≡ old) × (new_pool ≡ old_pool))
       ⊎ Starts key (slot_at new at) old old_pool new new_pool
+
+-- the group at a place has this key, whatever states it has
+pub record IsKeyAt (table : PooledTable) (key : List Value) (at : ℕ) : Type 0 where
+  pub within : at < length table.slots
+  pub is_key : (pool : Pool) → (group_at (in_pool table pool) at).0 ≡ key
 
 -- states were merged into the group of a key, and the table is one in the pool still
 pub record MergesIn (key : List Value) (states : List AggState) (old : PooledTable)

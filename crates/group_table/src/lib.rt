@@ -4,6 +4,7 @@
 mod fault;
 mod groups_in;
 mod laws;
+mod places;
 mod query_pool;
 mod table;
 

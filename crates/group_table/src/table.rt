@@ -34,7 +34,7 @@ pub struct GroupTable {
     columns: usize,
     owner: u16,
     most: u32,
-    slots: IndexMap<Row, Slot>,
+    pub(crate) slots: IndexMap<Row, Slot>,
 }
 
 impl Model for GroupTable {

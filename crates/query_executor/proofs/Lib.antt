@@ -6,7 +6,7 @@ pub mod LineLemmas
 pub mod SegmentLemmas
 pub mod Unread
 pub mod ReplyLemmas
-mod PassLemmas
+pub mod PassLemmas
 mod StatedLemmas
 pub mod OneReads
 pub mod PlanLemmas

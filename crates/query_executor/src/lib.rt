@@ -20,3 +20,4 @@ pub use executor::{reply_to_query, stats_query};
 pub use explain::explain_query;
 pub use fault::ExecutorFault;
 pub use laws::docs_law;
+pub use pass::{Pass, pass_over};

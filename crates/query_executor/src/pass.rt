@@ -75,7 +75,7 @@ impl Pass {
 
 /// Adds the rows of these segments to the groups that a pass has, one segment after the other, and
 /// the line of each where that is wanted.
-pub(crate) fn pass_over<S: Shelf>(
+pub fn pass_over<S: Shelf>(
     alloc: Global,
     shelf: &mut S,
     table: &Table,
