@@ -6,14 +6,13 @@
 //! and so on up to their fivefold; `texts NAME FIRST COUNT` gives one of two columns, the numbers
 //! from FIRST on and each as a text after a `t`; `stored NAME TEXT` gives a published file of the
 //! store, and `segments COUNT` so many with names of segments' files, from `g1.seg` on. The calls
-//! that fail
-//! are `DEVICE:NUMBER`, with blanks between them, or `DEVICE:NUMBER..` for all from one on. In
-//! their place `then` keeps the devices of the command before, `again` keeps the published files
-//! alone, as after a restart, and `long` says of every input file that it is too long. `length 0`,
-//! `length + 1` and `length - 1` say something false of the length of every input file, the same
-//! with `stored` of that of every published file, and with `segments` of those with names of
-//! segments. A word `pad COUNT TEXT` is the text with so many bytes, by blanks at its end. The word
-//! `open?` opens the table, and `file?` shows its file.
+//! that fail are `DEVICE:NUMBER`, with blanks between them, or `DEVICE:NUMBER..` for all from one
+//! on. In their place `then` keeps the devices of the command before, `again` keeps the published
+//! files alone, as after a restart, and `long` says of every input file that it is too long.
+//! `length 0`, `length + 1` and `length - 1` say something false of the length of every input file,
+//! the same with `stored` of that of every published file, and with `segments` of those with names
+//! of segments. A word `pad COUNT TEXT` is the text with so many bytes, by blanks at its end. The
+//! word `open?` opens the table, and `file?` shows its file.
 
 use crate::cases::Report;
 use crate::counting::Span;
