@@ -38,7 +38,10 @@ choices-requires g c =
     let asked = c.in_ok-by_ids.by_ids in
     let by = c.in_ok-by_ids.ensures in
     let kept = c.in_ok-keep_ids.ensures.kept in
-    subst (λ h. AreLoaded c.as_slice-conjuncts.result.now h) (sym kept) (subst (λ xs. AreLoaded xs (with_ids column count head)) (sym c.as_slice-conjuncts.ensures) (given_filtered query asked table segment head column count ids by a.held can))
+    record {
+      loaded = subst (λ h. AreLoaded c.as_slice-conjuncts.result.now h) (sym kept)
+          (subst (λ xs. AreLoaded xs (with_ids column count head)) (sym c.as_slice-conjuncts.ensures) (given_filtered query asked table segment head column count ids by a.held can));
+    }
 
 pub scan_segment-requires : goal.scan_segment-requires
 scan_segment-requires g c =
@@ -55,7 +58,9 @@ scan_segment-requires g c =
     let by = c.in_ok-by_ids.ensures in
     let plan : ScanPlan = record { choices = c.in_ok-choices.choices } in
     let kept = c.in_ok-keep_ids.ensures.kept in
-    let choices : plan.choices ≡ choices_for asked table (with_ids column count head) = c.in_ok-choices.ensures ∙ (λ i. map (choice_of table.settings (kept i)) (c.as_slice-conjuncts.ensures i)) in
+    let choices : plan.choices ≡ choices_for asked table (with_ids column count head) = 
+    subst (λ h. plan.choices ≡ map (choice_of table.settings h) asked.conjuncts) kept
+    (subst (λ xs. plan.choices ≡ map (choice_of table.settings c.keep_ids.new.self) xs) c.as_slice-conjuncts.ensures c.in_ok-choices.ensures) in
     let groups : KeptGroups = in_pool c.args.groups.now c.args.pool.now in
     record {
       pooled = c.requires.pooled;
@@ -141,7 +146,9 @@ returns-in-Ok g c =
     let by = c.in_ok-by_ids.ensures in
     let plan : ScanPlan = record { choices = c.in_ok-choices.choices } in
     let kept = c.in_ok-keep_ids.ensures.kept in
-    let choices : plan.choices ≡ choices_for asked table (with_ids column count head) = c.in_ok-choices.ensures ∙ (λ i. map (choice_of table.settings (kept i)) (c.as_slice-conjuncts.ensures i)) in
+    let choices : plan.choices ≡ choices_for asked table (with_ids column count head) = 
+    subst (λ h. plan.choices ≡ map (choice_of table.settings h) asked.conjuncts) kept
+    (subst (λ xs. plan.choices ≡ map (choice_of table.settings c.keep_ids.new.self) xs) c.as_slice-conjuncts.ensures c.in_ok-choices.ensures) in
     let groups : KeptGroups = in_pool c.args.groups.now c.args.pool.now in
     let b : outside.Seen = seen g.S.Shelf c.scan_segment.new.shelf in
     let new : KeptGroups = in_pool c.scan_segment.new.groups c.scan_segment.new.pool in
@@ -178,7 +185,9 @@ returns g c =
     let by = c.in_ok-by_ids.ensures in
     let plan : ScanPlan = record { choices = c.in_ok-choices.choices } in
     let kept = c.in_ok-keep_ids.ensures.kept in
-    let choices : plan.choices ≡ choices_for asked table (with_ids column count head) = c.in_ok-choices.ensures ∙ (λ i. map (choice_of table.settings (kept i)) (c.as_slice-conjuncts.ensures i)) in
+    let choices : plan.choices ≡ choices_for asked table (with_ids column count head) = 
+    subst (λ h. plan.choices ≡ map (choice_of table.settings h) asked.conjuncts) kept
+    (subst (λ xs. plan.choices ≡ map (choice_of table.settings c.keep_ids.new.self) xs) c.as_slice-conjuncts.ensures c.in_ok-choices.ensures) in
     let groups : KeptGroups = in_pool c.args.groups.now c.args.pool.now in
     let b : outside.Seen = seen g.S.Shelf c.scan_segment.new.shelf in
     let fault = c.in-Err.fault in
