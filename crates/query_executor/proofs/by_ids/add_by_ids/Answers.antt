@@ -58,7 +58,7 @@ scan_segment-requires g c =
     let by = c.in_ok-by_ids.ensures in
     let plan : ScanPlan = record { choices = c.in_ok-choices.choices } in
     let kept = c.in_ok-keep_ids.ensures.kept in
-    let choices : plan.choices ≡ choices_for asked table (with_ids column count head) = 
+    let choices : plan.choices ≡ choices_for asked table (with_ids column count head) =
     subst (λ h. plan.choices ≡ map (choice_of table.settings h) asked.conjuncts) kept
     (subst (λ xs. plan.choices ≡ map (choice_of table.settings c.keep_ids.new.self) xs) c.as_slice-conjuncts.ensures c.in_ok-choices.ensures) in
     let groups : KeptGroups = in_pool c.args.groups.now c.args.pool.now in
@@ -146,7 +146,7 @@ returns-in-Ok g c =
     let by = c.in_ok-by_ids.ensures in
     let plan : ScanPlan = record { choices = c.in_ok-choices.choices } in
     let kept = c.in_ok-keep_ids.ensures.kept in
-    let choices : plan.choices ≡ choices_for asked table (with_ids column count head) = 
+    let choices : plan.choices ≡ choices_for asked table (with_ids column count head) =
     subst (λ h. plan.choices ≡ map (choice_of table.settings h) asked.conjuncts) kept
     (subst (λ xs. plan.choices ≡ map (choice_of table.settings c.keep_ids.new.self) xs) c.as_slice-conjuncts.ensures c.in_ok-choices.ensures) in
     let groups : KeptGroups = in_pool c.args.groups.now c.args.pool.now in
@@ -185,7 +185,7 @@ returns g c =
     let by = c.in_ok-by_ids.ensures in
     let plan : ScanPlan = record { choices = c.in_ok-choices.choices } in
     let kept = c.in_ok-keep_ids.ensures.kept in
-    let choices : plan.choices ≡ choices_for asked table (with_ids column count head) = 
+    let choices : plan.choices ≡ choices_for asked table (with_ids column count head) =
     subst (λ h. plan.choices ≡ map (choice_of table.settings h) asked.conjuncts) kept
     (subst (λ xs. plan.choices ≡ map (choice_of table.settings c.keep_ids.new.self) xs) c.as_slice-conjuncts.ensures c.in_ok-choices.ensures) in
     let groups : KeptGroups = in_pool c.args.groups.now c.args.pool.now in
