@@ -10,6 +10,6 @@ pub mod DropLemmas
 mod OpenLemmas
 pub mod StandsLemmas
 mod KeepLemmas
-mod CopyLemmas
+pub mod CopyLemmas
 pub mod KeyLemmas
 pub mod ImageLemmas

@@ -1,0 +1,20 @@
+//! Cursors over the segments of a store, which answer a segment after the other while segments are
+//! built, dropped and replaced: each within its quota of groups, and over the rows that were live
+//! when it was opened.
+#![tactic(auto)]
+
+mod answering;
+mod aside;
+mod closing;
+mod cursor;
+mod fault;
+mod gathering;
+mod opening;
+mod places;
+mod serving;
+
+pub use cursor::Cursor;
+pub use fault::ServeFault;
+pub use gathering::MOST_CURSOR_GROUPS;
+pub use places::MOST_CURSORS;
+pub use serving::Serving;
