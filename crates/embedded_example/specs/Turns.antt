@@ -16,7 +16,7 @@ use Rattle.table_store.specs.State.{Texts}
 use Rattle.cursor_serve.specs.Laws.{printed}
 use Rattle.cursor_serve.specs.Machine.{Live, Machine, cursor_reply, lists_of, rows_of}
 use Rattle.cursor_serve.specs.ServingStands.{ServingStands}
-use Rattle.embedded_example.specs.declared.ready.Ready.{Ready}
+use Rattle.embedded_example.specs.declared.months.Ready.{Ready}
 
 -- a text is the reply to a query over lists of rows
 abbrev pub IsReplyTo : BoundQuery → Live → List ℕ → Type 0

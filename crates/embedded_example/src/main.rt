@@ -3,7 +3,7 @@
 //! visits, while those of June are put right.
 #![tactic(auto)]
 
-mod ready;
+mod months;
 mod turns;
 
 ghost use Rattle.std.specs.Prelude.{IfOk};
@@ -12,8 +12,8 @@ ghost use Rattle.embedded_example.specs.Visits.{AreReplies};
 
 use embedded::{Fault, Store};
 use memory_devices::MemoryDepot;
+use months::{Ready, Stop, both_months, make_ready};
 use outside::{Bytes, Name, Seq};
-use ready::{Ready, Stop, both_months, ready};
 use std::alloc::{AllocError, Global};
 use std::io;
 use std::io::Write;
@@ -95,7 +95,7 @@ fn turned(alloc: Global, july: &Rows) -> Result<(Bytes, Bytes), Stop> {
         early,
         late,
         rows,
-    } = ready(alloc, &mut depot, BY_COUNTRY, CORRECTED)?;
+    } = make_ready(alloc, &mut depot, BY_COUNTRY, CORRECTED)?;
     let replies = take_turns(alloc, &mut depot, &table, early, late, "june", rows)?;
     Ok(replies)
 }

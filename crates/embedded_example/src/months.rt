@@ -34,7 +34,7 @@ pub enum Stop {
 
 impl From<Fault> for Stop {
     ghost use Rattle.std.specs.Prelude.{◌≡◌};
-    ghost use Rattle.embedded_example.specs.declared.ready.Stop.TheVariants.{Store};
+    ghost use Rattle.embedded_example.specs.declared.months.Stop.TheVariants.{Store};
 
     ghost from_gives = { λ fault stop. stop ≡ Store fault };
 
@@ -45,7 +45,7 @@ impl From<Fault> for Stop {
 
 impl From<ServeFault> for Stop {
     ghost use Rattle.std.specs.Prelude.{◌≡◌};
-    ghost use Rattle.embedded_example.specs.declared.ready.Stop.TheVariants.{Cursor};
+    ghost use Rattle.embedded_example.specs.declared.months.Stop.TheVariants.{Cursor};
 
     ghost from_gives = { λ fault stop. stop ≡ Cursor fault };
 
@@ -81,7 +81,12 @@ fn query_of(alloc: Global, sql: &str, table: &Table) -> Result<BoundQuery, Fault
 }
 
 /// The table of a store, one query for each of two cursors, and the rows of a CSV text.
-pub fn ready<D: Depot>(alloc: Global, depot: &mut D, sql: &str, csv: &str) -> Result<Ready, Fault>
+pub fn make_ready<D: Depot>(
+    alloc: Global,
+    depot: &mut D,
+    sql: &str,
+    csv: &str,
+) -> Result<Ready, Fault>
     requires { length csv.now ≤ csv_limit }
     ensures { IfOk result IsReady }
 {
