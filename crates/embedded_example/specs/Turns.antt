@@ -1,5 +1,5 @@
 -- What two cursors print that take turns while rows of a segment are replaced.
-use Rattle.std.specs.Prelude.{◌≡◌, ℕ, List, [], Option, Ok, IfSome, length}
+use Rattle.std.specs.Prelude.{◌≡◌, ℕ, List, [], Option, None, Ok, IfSome, length}
 use Rattle.std.specs.FinMap as finite
 use Rattle.std.specs.List.{All}
 use Rattle.outside.specs.Files.{Files}
