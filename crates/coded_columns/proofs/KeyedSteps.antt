@@ -1,5 +1,5 @@
 -- What is kept of rows by their keys, with more rows.
-use Rattle.std.proofs.Common.{◌≡◌, ◌≢◌, ◌∙◌, ◌<◌, ◌≤◌, ◌+◌, ◌-◌, ◌+ℤ◌, ◌++◌, ◌∷◌, ◌==◌, ◌⊎◌, [], ℕ, ℤ, pos, zero, suc, List, length, map, get_or, set, refl, ap, sym, subst, arith, inl, inr, count_by}
+use Rattle.std.proofs.Common.{◌≡◌, ◌≢◌, ◌∙◌, ◌<◌, ◌≤◌, ◌+◌, ◌-◌, ◌+ℤ◌, ◌++◌, ◌∷◌, ◌==◌, ◌⊎◌, [], ℕ, ℤ, pos, zero, suc, List, length, map, get_or, set, refl, ap, sym, subst, arith, inl, inr, count_by, true, false}
 use Rattle.std.specs.List.{All}
 use Rattle.std.proofs.lemmas.Bool.{cases_lt, cond-false, ne_eqb}
 use Rattle.std.proofs.lemmas.List.{get_or-append_right, get_or-map, get_or-set_other, get_or-set_same, get_or_append_left, get_or_default, get_or_push, length-append, length-map, map-append}
@@ -332,6 +332,9 @@ in_slot-none (s ∷ keys) k (x ∷ xs) none =
     cond-false (s == k) (x ∷ in_slot k keys xs) (in_slot k keys xs) (ne_eqb s k (none 0 (omega arith)))
     ∙ in_slot-none keys k xs (λ j lt. none (suc j) (omega (arith, lt)))
 
+not-both : true ≡ false → ⊥
+not-both e = cc
+
 -- ---- all that is kept, by packed keys
 
 module _ (segment : SegmentColumns) (groups : List ℕ) (aggs : List Agg) where
@@ -402,6 +405,7 @@ module _ (segment : SegmentColumns) (groups : List ℕ) (aggs : List Agg) where
                 same = λ some j j_lt has.
                     h.keys.same (get_or places j 0) (get_or rows.firsts.items k 0 - 1) (below j 0 j_lt) (f.some some).0 (sym (at j j_lt) ∙ has ∙ sym (f.some some).1);
               };
+          packed = record { few = λ are. h.keys.at_most; own = λ are k lt some. ((h.firsts k lt).some some).1 };
           states = h.states;
         };
       }
@@ -423,8 +427,8 @@ module _ (segment : SegmentColumns) (groups : List ℕ) (aggs : List Agg) where
       }
 
   pub slots-hold : (places slots firsts : List ℕ) (rows : KeyedRows) → AreSlots (table_of segment).columns groups places slots firsts → AreBelow segment.count places
-      → rows.firsts.items ≡ map (λ first. get_or places first 0 + 1) firsts → HoldAggs (length firsts) slots (rows-of places) aggs rows.aggs.items → HoldsRows segment groups aggs places rows
-  slots-hold places slots firsts rows st below is states =
+      → rows.are_packed ≡ false → rows.firsts.items ≡ map (λ first. get_or places first 0 + 1) firsts → HoldAggs (length firsts) slots (rows-of places) aggs rows.aggs.items → HoldsRows segment groups aggs places rows
+  slots-hold places slots firsts rows st below plain is states =
       let lead : ℕ → ℕ = λ first. get_or places first 0 + 1 in
       let many : length rows.firsts.items ≡ length firsts = ap length is ∙ length-map firsts lead in
       record {
@@ -436,6 +440,7 @@ module _ (segment : SegmentColumns) (groups : List ℕ) (aggs : List Agg) where
               let k_lt : k < length firsts = omega (arith, lt, many) in
               let first_is : get_or rows.firsts.items k 0 ≡ lead (get_or firsts k 0) = ap (λ (l : List ℕ). get_or l k 0) is ∙ get_or-map lead firsts k 0 0 k_lt in
               subst (IsFirst segment groups slots places k) (sym first_is) (slots-first places slots firsts k st below k_lt);
+          packed = record { few = λ are. absurd (not-both (sym are ∙ plain)); own = λ are. absurd (not-both (sym are ∙ plain)) };
           states = subst (λ n. HoldAggs n slots (rows-of places) aggs rows.aggs.items) (sym many) states;
         };
       }
@@ -450,6 +455,7 @@ module _ (segment : SegmentColumns) (groups : List ℕ) (aggs : List Agg) where
           count = refl;
           below = λ j lt. absurd (omega (arith, lt));
           firsts = λ k lt. absurd (omega (arith, lt, few));
+          packed = record { few = λ are. omega (arith, few); own = λ are k lt. absurd (omega (arith, lt, few)) };
           states = subst (λ n. HoldAggs n [] [] aggs rows.aggs.items) (sym few) states;
         };
       }

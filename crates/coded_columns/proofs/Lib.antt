@@ -5,4 +5,6 @@ pub mod FoldSteps
 pub mod NumberSteps
 pub mod SortSteps
 pub mod KeySteps
+pub mod KeyIdSteps
+pub mod AscendSteps
 pub mod KeyedSteps

@@ -1,5 +1,5 @@
 -- What is kept of rows by their keys: for each key a row that has it, and the aggregates.
-use Rattle.std.specs.Prelude.{◌≡◌, ◌≢◌, ◌⊎◌, ◌<◌, ◌≤◌, ◌+◌, ◌-◌, ◌++◌, ℕ, ℤ, pos, List, Option, Some, length, get_or, map, set}
+use Rattle.std.specs.Prelude.{◌≡◌, ◌≢◌, ◌⊎◌, ◌<◌, ◌≤◌, ◌+◌, ◌-◌, ◌++◌, ℕ, ℤ, pos, List, Option, Some, length, get_or, map, set, true}
 use Rattle.std.specs.List.{All}
 use Rattle.std.specs.Option.{option_map_or}
 use Rattle.values.specs.declared.value.Value.{Value}
@@ -140,6 +140,13 @@ pub record IsFirst (segment : SegmentColumns) (groups keys places : List ℕ) (k
       → key_of groups (row_of (table_of segment).columns (get_or places j 0))
       ≡ key_of groups (row_of (table_of segment).columns (first - 1))
 
+-- where keys are the packed ids of rows, they are few, and the row that is kept for a key has it
+pub record ArePacked (segment : SegmentColumns) (groups : List ℕ) (rows : KeyedRows) : Type 0 where
+  pub few : rows.are_packed ≡ true → length rows.firsts.items ≤ most_rows
+  pub own : rows.are_packed ≡ true → (k : ℕ) → k < length rows.firsts.items
+      → 0 < get_or rows.firsts.items k 0
+      → key_at segment groups (get_or rows.firsts.items k 0 - 1) ≡ k
+
 -- what is kept is that of these rows, which have these keys
 pub record HoldsKeys (segment : SegmentColumns) (groups : List ℕ) (aggs : List Agg)
     (keys places : List ℕ) (rows : KeyedRows) : Type 0 where
@@ -147,6 +154,7 @@ pub record HoldsKeys (segment : SegmentColumns) (groups : List ℕ) (aggs : List
   pub below : (j : ℕ) → j < length keys → get_or keys j 0 < length rows.firsts.items
   pub firsts : (k : ℕ) → k < length rows.firsts.items
       → IsFirst segment groups keys places k (get_or rows.firsts.items k 0)
+  pub packed : ArePacked segment groups rows
   pub states : HoldAggs (length rows.firsts.items) keys
       (rows_at (table_of segment).columns places) aggs rows.aggs.items
 
@@ -155,6 +163,14 @@ pub record HoldsRows (segment : SegmentColumns) (groups : List ℕ) (aggs : List
     (places : List ℕ) (rows : KeyedRows) : Type 0 where
   pub keys : List ℕ
   pub holds : HoldsKeys segment groups aggs keys places rows
+
+-- a row is kept for a key; where keys are packed ids, it has the key
+pub record IsKept (segment : SegmentColumns) (groups : List ℕ) (rows : KeyedRows) (k : ℕ) : Type 0
+  where
+    pub key : k < length rows.firsts.items
+    pub some : 0 < get_or rows.firsts.items k 0
+    pub within : get_or rows.firsts.items k 0 - 1 < segment.count
+    pub packed : ArePacked segment groups rows
 
 -- ---- rows by packed keys, block by block
 

@@ -23,6 +23,30 @@ packed_after segment key (group ∷ groups) at =
 abbrev pub key_at : SegmentColumns → List ℕ → ℕ → ℕ
 key_at segment groups at = packed_after segment 0 groups at
 
+-- the id of a row in a column, if it is looked at
+abbrev pub IsIdAt : Option Coded → ℕ → ℕ → Type 0
+IsIdAt None at id = Unit {0}
+IsIdAt (Some column) at id = id ≡ get_or column.ids.now at 0
+
+-- the ids of a row in some columns, of each that is looked at
+pub record AreIdsAt (segment : SegmentColumns) (groups : List ℕ) (at : ℕ) (ids : List ℕ) : Type 0
+  where
+    pub count : length ids ≡ length groups
+    pub each : (i : ℕ) → i < length groups
+        → IsIdAt (column_of segment (get_or groups i 0)) at (get_or ids i 0)
+
+-- a row has this id in a column
+pub record IsIdOfRow (segment : SegmentColumns) (group id : ℕ) : Type 0 where
+  pub row : ℕ
+  pub within : row < segment.count
+  pub is : IsIdAt (column_of segment group) row id
+
+-- a row has these ids in some columns
+pub record AreIdsOfRow (segment : SegmentColumns) (groups ids : List ℕ) : Type 0 where
+  pub row : ℕ
+  pub within : row < segment.count
+  pub are : AreIdsAt segment groups row ids
+
 -- rows of one key have one value in each group column, and there are so many keys; those of the
 -- first columns alone are few too
 pub record AreKeys (segment : SegmentColumns) (groups : List ℕ) (size : ℕ) : Type 0 where

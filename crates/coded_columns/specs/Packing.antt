@@ -2,6 +2,10 @@
 use Rattle.std.specs.Prelude.{◌≡◌, ◌<◌, ◌+◌, ◌*◌, ℕ, List, get_or, length}
 use Rattle.coded_columns.specs.IdColumns.{most_rows}
 
+-- each place is after those before it
+abbrev pub Ascend : List ℕ → Type 0
+Ascend places = (j k : ℕ) → j < k → k < length places → get_or places j 0 < get_or places k 0
+
 -- the places are those from one on
 abbrev pub AreAfter : List ℕ → ℕ → Type 0
 AreAfter places first = (k : ℕ) → k < length places → get_or places k 0 ≡ first + k

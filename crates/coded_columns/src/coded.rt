@@ -32,8 +32,8 @@ impl<'a> SegmentColumns<'a> {
         self.at(field)
     }
 
-    /// The same, which is the one at that number.
-    pub(crate) fn at(&self, field: u16) -> Option<Coded<'a>>
+    /// The same: it is the one at that number.
+    pub fn at(&self, field: u16) -> Option<Coded<'a>>
         ensures { result ≡ column_of self.now field }
     {
         match self.columns.get(usize::from(field)) {

@@ -43,6 +43,14 @@ impl Ids {
         }
     }
 
+    /// Whether an id takes two bytes.
+    pub fn are_narrow(&self) -> bool {
+        match &self.room {
+            IdRoom::Narrow(_) => true,
+            IdRoom::Wide(_) => false,
+        }
+    }
+
     /// The id of a row.
     #[inline(always)]
     pub fn at(&self, row: usize) -> u32

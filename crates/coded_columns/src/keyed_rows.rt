@@ -1,14 +1,16 @@
 //! What is kept of a segment's rows by their keys.
 
-ghost use Rattle.std.specs.Prelude.{◌≡◌, ◌<◌, ◌+◌, ℕ, [], IfOk, OnOk, get_or, length, map};
+ghost use Rattle.std.specs.Prelude.{◌≡◌, ◌<◌, ◌+◌, ◌-◌, ℕ, [], IfOk, OnOk, get_or, length, map};
 ghost use Rattle.std.specs.Bool.{OnTrue};
 ghost use Rattle.std.specs.List.{All};
 ghost use Rattle.value_ids.specs.Coding.{AreBelow};
 ghost use Rattle.coded_columns.specs.Coded.{most_rows};
-ghost use Rattle.coded_columns.specs.Keyed.{AddsAgg, AddsPlaces, AllAdd, AreOfRows, HoldAggs, HoldsPacked, HoldsRows, MeetsRow, SetsFirst, TakeKeys, TakesKeys, TakesRows, rows_in, size_in, state_in};
-ghost use Rattle.coded_columns.specs.Keys.{AreKeys, key_at};
+ghost use Rattle.coded_columns.specs.Keyed.{AddsAgg, AddsPlaces, AllAdd, AreOfRows, HoldAggs, HoldsPacked, HoldsRows, IsKept, MeetsRow, SetsFirst, TakeKeys, TakesKeys, TakesRows, rows_in, size_in, state_in};
+ghost use Rattle.coded_columns.specs.Keys.{AreIdsAt, AreKeys, key_at};
 
+use crate::coded::SegmentColumns;
 use crate::counting::count_keys;
+use crate::key_ids::{put_digits, put_row};
 use crate::key_states::KeyStates;
 use crate::keys::pack_keys;
 use crate::placed_rows::PlacedRows;
@@ -23,9 +25,10 @@ use values::NoMemory;
 const PART: usize = 4096;
 
 /// For each key of the rows that were added one more than the place of such a row, or 0 where none
-/// has it, and the states of the aggregates.
+/// has it, and the states of the aggregates. Keys are the packed ids of rows, or slots.
 #[derive(Drop)]
 pub struct KeyedRows {
+    pub are_packed: bool,
     pub firsts: Vec<u32>,
     pub aggs: Vec<KeyStates>,
 }
@@ -55,7 +58,11 @@ impl KeyedRows {
     {
         let firsts = zeros(alloc, size)?;
         let aggs = units_of(alloc, aggs, size)?;
-        Ok(KeyedRows { firsts, aggs })
+        Ok(KeyedRows {
+            are_packed: true,
+            firsts,
+            aggs,
+        })
     }
 
     /// Adds some rows by their ids in the group columns.
@@ -90,15 +97,51 @@ impl KeyedRows {
         if placed.places.is_empty() {
             let aggs = units_of(alloc, aggs, 0)?;
             let firsts = Vec::new(alloc);
-            return Ok(KeyedRows { firsts, aggs });
+            return Ok(KeyedRows {
+                are_packed: false,
+                firsts,
+                aggs,
+            });
         }
         let Slots { slots, firsts } = slots_of(alloc, placed, groups)?;
         let states = states_of_slots(alloc, placed, aggs, &slots, firsts.len())?;
         let firsts = places_of_firsts(alloc, placed.places, &firsts)?;
         Ok(KeyedRows {
+            are_packed: false,
             firsts,
             aggs: states,
         })
+    }
+
+    /// The ids that the rows of a key have in the group columns, in place of others.
+    pub fn fill_ids(
+        &self,
+        segment: &SegmentColumns<'_>,
+        groups: &[u16],
+        key: usize,
+        ids: &mut Vec<u32>,
+    ) -> Result<(), NoMemory>
+        requires { IsKept segment.now groups.now self.now key }
+        ensures { OnOk result (AreIdsAt segment.now groups.now
+            (get_or self.now.firsts.items key 0 - 1) ids.new.items) }
+    {
+        ids.resize(groups.len(), 0)?;
+        self.put_ids(segment, groups, key, ids);
+        Ok(())
+    }
+
+    // The same in room for them: packed ids are told by the key, and those of slots by the row.
+    fn put_ids(&self, segment: &SegmentColumns<'_>, groups: &[u16], key: usize, ids: &mut [u32])
+        requires same { length ids.old ≡ length groups.now }
+        requires kept { IsKept segment.now groups.now self.now key }
+        ensures { AreIdsAt segment.now groups.now (get_or self.now.firsts.items key 0 - 1)
+            ids.new }
+    {
+        if self.are_packed {
+            put_digits(segment, groups, key as u32, ids);
+            return;
+        }
+        put_row(segment, groups, self.firsts[key] as usize - 1, ids);
     }
 
     /// Puts the states of a key in place of those of a row.

@@ -1,13 +1,13 @@
 //! The keys of rows: the ids of a row in the group columns as one number.
 
-ghost use Rattle.std.specs.Prelude.{◌≡◌, ◌≤◌, ◌<◌, ◌+◌, ◌*◌, ◌++◌, ◌∷◌, ◌^◌, [], ℕ, List, OnOk, get_or, length, map, take};
+ghost use Rattle.std.specs.Prelude.{◌≡◌, ◌≤◌, ◌<◌, ◌+◌, ◌*◌, ◌++◌, ◌∷◌, [], ℕ, List, OnOk, get_or, length, map, nat_eq, take};
 ghost use Rattle.std.specs.Bool.{OnTrue};
 ghost use Rattle.std.specs.Option.{IfSome};
 ghost use Rattle.value_ids.specs.Coding.{AreBelow};
 ghost use Rattle.coded_columns.specs.Coded.{column_of, most_rows};
 ghost use Rattle.coded_columns.specs.Ids.{seen_ids};
 ghost use Rattle.coded_columns.specs.Keys.{AreKeys, ArePackable, key_at, packed_with};
-ghost use Rattle.coded_columns.specs.Packing.{AreAfter, PacksIds, TakesIds};
+ghost use Rattle.coded_columns.specs.Packing.{AreAfter, Ascend, PacksIds, TakesIds};
 
 use crate::coded::SegmentColumns;
 use crate::ids::{IdSlices, Ids};
@@ -112,6 +112,7 @@ fn put_zeros(keys: &mut [u32])
 // Puts the ids of rows in a column.
 fn put_ids(keys: &mut [u32], ids: &Ids, places: &[u32])
     requires same { length keys.old ≡ length places.now }
+    requires ascend { Ascend places.now }
     requires rows { AreBelow (length ids.now) places.now }
     ensures same { length keys.new ≡ length keys.old }
     ensures each { (k : ℕ) → k < length places.now → get_or keys.new k 0
@@ -193,6 +194,7 @@ fn add_column(placed: PlacedRows<'_, '_>, group: u16, keys: &mut [u32])
 // Packs the ids of rows in one column more after their keys.
 fn add_ids(keys: &mut [u32], width: u32, ids: &Ids, places: &[u32])
     requires same { length keys.old ≡ length places.now }
+    requires ascend { Ascend places.now }
     requires rows { AreBelow (length ids.now) places.now }
     requires fits { (k : ℕ) → k < length places.now
         → get_or keys.old k 0 * width + get_or ids.now (get_or places.now k 0) 0 < most_rows }
@@ -207,30 +209,31 @@ fn add_ids(keys: &mut [u32], width: u32, ids: &Ids, places: &[u32])
 
 // The first of some places, if each of the others follows the one before.
 fn first_of(places: &[u32]) -> Option<u32>
+    requires { Ascend places.now }
     ensures some { IfSome result (λ first. 0 < length places.now) }
     ensures each { IfSome result (AreAfter places.now) }
 {
-    let count = places.len();
-    if count == 0 || places[count - 1] as usize + 1 != places[0] as usize + count {
+    if places.is_empty() || !follow(places) {
         return None;
     }
-    let first = places[0];
-    if follow(places, first) {
-        return Some(first);
-    }
-    None
+    Some(places[0])
 }
 
-// Whether places are those from one on. It looks at each, so that it is done many at a time.
-fn follow(places: &[u32], first: u32) -> bool
-    requires { first + length places.now ≤ 2 ^ 32 }
-    ensures { OnTrue result (AreAfter places.now first) }
+// Whether places are those from the first on: they ascend, so that the last one tells.
+fn follow(places: &[u32]) -> bool
+    requires ascend { Ascend places.now }
+    requires some { 0 < length places.now }
+    ensures { OnTrue result (AreAfter places.now (get_or places.now 0 0)) }
 {
-    let mut follow = true;
-    for k in 0..places.len() {
-        follow &= places[k] == first + k as u32;
-    }
-    follow
+    ends_at(places, places.len() - 1)
+}
+
+// Whether a place is as far from the first as there are others before it.
+fn ends_at(places: &[u32], last: usize) -> bool
+    requires { last < length places.now }
+    ensures { result ≡ nat_eq (get_or places.now last 0) (get_or places.now 0 0 + last) }
+{
+    places[last] as usize == places[0] as usize + last
 }
 
 // Packs the ids of rows that lie one after the other after their keys.

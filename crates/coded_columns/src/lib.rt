@@ -5,6 +5,7 @@
 mod coded;
 mod counting;
 mod ids;
+mod key_ids;
 mod key_states;
 mod keyed_rows;
 mod keys;

@@ -13,6 +13,8 @@ use Rattle.scan_engine.proofs.AddLemmas.{selected_more}
 use Rattle.scan_engine.proofs.FoldLemmas.{count_marked, rows_marked}
 use Rattle.coded_columns.specs.declared.coded.SegmentColumns.{SegmentColumns}
 use Rattle.coded_columns.specs.Coded.{table_of}
+use Rattle.coded_columns.specs.Packing.{Ascend}
+use Rattle.coded_columns.proofs.AscendSteps.{ascend-marked, ascend-none}
 use Rattle.coded_columns.proofs.CodedLemmas.{below_marked, counts}
 use Rattle.coded_scan.specs.RowFilters.{passing}
 
@@ -23,6 +25,12 @@ passing-few holds from (suc n) = omega (arith, count_marked (passing holds from 
 pub passing-below : (holds : ℕ → Bool) (from n count : ℕ) → from + n ≤ count → AreBelow count (passing holds from n)
 passing-below holds from zero count le = All-nil (λ p. p < count)
 passing-below holds from (suc n) count le = below_marked count (passing holds from n) (from + n) (holds (from + n)) (omega (arith, le)) (passing-below holds from n count (omega (arith, le)))
+
+-- the places that pass ascend
+pub passing-ascend : (holds : ℕ → Bool) (from n : ℕ) → Ascend (passing holds from n)
+passing-ascend holds from zero = ascend-none
+passing-ascend holds from (suc n) =
+    ascend-marked (passing holds from n) (from + n) (holds (from + n)) (passing-ascend holds from n) (passing-below holds from n (from + n) (omega arith))
 
 -- the places that pass are those of the rows that are selected
 pub passing-rows : (segment : SegmentColumns) (query : BoundQuery) (holds : ℕ → Bool) → ((at : ℕ) → at < segment.count → holds at ≡ all_hold (row_of (table_of segment).columns at) query.conjuncts)

@@ -1,6 +1,7 @@
 -- The rows of one key, and the places of rows that pass.
-use Rattle.std.proofs.Common.{◌≡◌, ◌∙◌, ◌<◌, ◌≤◌, ◌+◌, ◌-◌, ◌++◌, [], ℕ, Bool, List, length, get_or, ap, sym, arith, pos}
-use Rattle.std.proofs.lemmas.List.{get_or-map, length-map}
+use Rattle.std.proofs.Common.{◌≡◌, ◌∙◌, ◌<◌, ◌≤◌, ◌+◌, ◌-◌, ◌++◌, ◌∷◌, [], ℕ, Bool, Some, List, length, get_or, take, slice_get, ap, sym, arith, pos}
+use Rattle.std.proofs.lemmas.List.{get_or-map, length-map, map-append, take_more}
+use Rattle.std.proofs.lemmas.Option.{get_or_from_slice_get}
 use Rattle.values.specs.declared.value.Value.{Value}
 use Rattle.values.specs.declared.value.Value.TheVariants.{Whole}
 use Rattle.values.specs.Columns.{Listed, row_of}
@@ -10,7 +11,10 @@ use Rattle.group_table.specs.Groups.{key_of}
 use Rattle.scan_engine.specs.Places.{IsRun, rows_at}
 use Rattle.coded_columns.specs.declared.coded.SegmentColumns.{SegmentColumns}
 use Rattle.coded_columns.specs.declared.keyed_rows.KeyedRows.{KeyedRows}
-use Rattle.coded_columns.specs.Coded.{table_of}
+use Rattle.table_schema.specs.Conditions.{cell}
+use Rattle.coded_columns.specs.declared.coded.Coded.{Coded}
+use Rattle.coded_columns.specs.IdColumns.{HasIds}
+use Rattle.coded_columns.specs.Coded.{IsOfField, table_of}
 use Rattle.coded_columns.specs.Keyed.{HoldsKeys}
 use Rattle.coded_columns.specs.Slots.{in_slot}
 use Rattle.coded_columns.proofs.KeyedSteps.{in_slot-none}
@@ -33,6 +37,21 @@ passed-below rows = passing-below (λ at. all_let at rows.row_filters.now) 0 row
 
 pub passed-few : (rows : FilteredRows) → length (passed rows) ≤ rows.segment.now.count
 passed-few rows = passing-few (λ at. all_let at rows.row_filters.now) 0 rows.segment.now.count
+
+-- the key by one group column more
+pub key-next : (columns : List ℕ) (at : ℕ) (row : List Value) → at < length columns → key_of (take (at + 1) columns) row ≡ key_of (take at columns) row ++ cell row (get_or columns at 0) ∷ []
+key-next columns at row lt = ap (λ (l : List ℕ). key_of l row) (take_more columns at 0 lt) ∙ map-append (cell row) (take at columns) (get_or columns at 0 ∷ [])
+
+-- the id of a row has a value
+pub id-known : (count : ℕ) (column : Coded) (row id : ℕ) → HasIds count column → row < count → id ≡ get_or column.ids.now row 0 → id < length column.dictionary.now.values
+id-known count column row id has lt is = omega (arith, is, has.below row 0 (omega (arith, lt, has.count)))
+
+-- which is that of the row
+pub value-is : (segment : SegmentColumns) (field : ℕ) (column : Coded) (row id : ℕ) (value : Value) → IsOfField segment field column → row < segment.count → id ≡ get_or column.ids.now row 0
+    → slice_get column.dictionary.now.values id ≡ Some value → value ≡ cell (row_of (table_of segment).columns row) field
+value-is segment field column row id value of lt is got =
+    let values : List Value = column.dictionary.now.values in
+    sym (of.each row lt ∙ ap (λ i. get_or values i (Whole (pos 0))) (sym is) ∙ get_or_from_slice_get values id value (Whole (pos 0)) got)
 
 module _ (segment : SegmentColumns) (groups : List ℕ) (aggs : List Agg) (keys places : List ℕ) (rows : KeyedRows) (h : HoldsKeys segment groups aggs keys places rows) where
   abbrev pub columns : List Listed

@@ -8,8 +8,9 @@ ghost use Rattle.group_table.specs.Kept.{IsTableOf, groups_in};
 ghost use Rattle.group_table.specs.Pooled.{IsTableIn, StaysIn, in_pool};
 ghost use Rattle.table_schema.specs.Conditions.{cell};
 ghost use Rattle.scan_engine.specs.Scanned.{HaveAtMost};
-ghost use Rattle.coded_columns.specs.Coded.{table_of};
+ghost use Rattle.coded_columns.specs.Coded.{column_of, table_of};
 ghost use Rattle.coded_columns.specs.Keyed.{HoldsKeys, HoldsRows};
+ghost use Rattle.coded_columns.specs.Keys.{AreIdsAt, AreIdsOfRow, IsIdAt, IsIdOfRow};
 ghost use Rattle.coded_scan.specs.Added.{AddsOrFills};
 ghost use Rattle.coded_scan.specs.Passed.{MayMerge, passed, passed_rows, run_of};
 
@@ -25,6 +26,7 @@ use values::{NoMemory, Row, Value};
 #[derive(Drop)]
 struct GroupRoom {
     alloc: Global,
+    ids: Vec<u32>,
     values: Vec<Value>,
     states: StateRow,
 }
@@ -34,6 +36,7 @@ impl GroupRoom {
     fn new(alloc: Global) -> GroupRoom {
         GroupRoom {
             alloc,
+            ids: Vec::new(alloc),
             values: Vec::new(alloc),
             states: StateRow::new(alloc),
         }
@@ -97,55 +100,61 @@ fn merge_key(
     }
     let GroupRoom {
         alloc,
+        mut ids,
         values,
         mut states,
     } = room;
     let columns = query.groups.as_slice();
-    let own = key_at(alloc, rows.segment, columns, first as usize - 1, values)?;
+    keyed.fill_ids(rows.segment, columns, key, &mut ids)?;
+    let own = key_by_ids(alloc, rows.segment, columns, &ids, values)?;
     keyed.fill_states(key, &mut states)?;
     if let Err(fault) = table.merge_row(alloc, pool, &own, &states) {
         return Err(fault);
     }
     Ok(GroupRoom {
         alloc,
+        ids,
         values: own.into_vec(),
         states,
     })
 }
 
-// The key of a row, in place of the values of another.
-fn key_at(
+// The key of the rows that have these ids in the group columns, in place of the values of another.
+fn key_by_ids(
     alloc: Global,
     segment: &SegmentColumns<'_>,
     columns: &[u16],
-    at: usize,
+    ids: &[u32],
     values: Vec<Value>,
 ) -> Result<Row, NoMemory>
-    requires { at < segment.now.count }
-    ensures { IfOk result (λ key. key
-        ≡ key_of columns.now (row_of (table_of segment.now).columns at)) }
+    requires same { length ids.now ≡ length columns.now }
+    requires row { AreIdsOfRow segment.now columns.now ids.now }
+    ensures { IfOk result (λ key. (row : ℕ) → row < segment.now.count
+        → AreIdsAt segment.now columns.now row ids.now
+        → key ≡ key_of columns.now (row_of (table_of segment.now).columns row)) }
 {
     let mut key = values;
     key.clear();
-    for column in columns {
-        key.push(value_at(alloc, segment, *column, at)?)?;
+    for at in 0..columns.len() {
+        key.push(value_of(alloc, segment, columns[at], ids[at])?)?;
     }
     Ok(Row::from_vec(key))
 }
 
-// The value of a row in a field.
-fn value_at(
+// The value of the rows that have this id in a field.
+fn value_of(
     alloc: Global,
     segment: &SegmentColumns<'_>,
     field: u16,
-    at: usize,
+    id: u32,
 ) -> Result<Value, NoMemory>
-    requires { at < segment.now.count }
-    ensures { IfOk result (λ value. value
-        ≡ cell (row_of (table_of segment.now).columns at) field) }
+    requires { IsIdOfRow segment.now field id }
+    ensures { IfOk result (λ value. (row : ℕ) → row < segment.now.count
+        → IsIdAt (column_of segment.now field) row id
+        → value ≡ cell (row_of (table_of segment.now).columns row) field) }
 {
-    match segment.column(field) {
-        Some(column) => column.dictionary.value_at(alloc, column.ids.at(at)),
+    match segment.at(field) {
+        Some(column) => column.dictionary.value_at(alloc, id),
         None => Ok(Value::Whole(0)),
     }
 }

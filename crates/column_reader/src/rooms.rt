@@ -29,9 +29,13 @@ impl IdRooms {
         self.alloc
     }
 
-    /// Keeps the room of ids that are done with, column by column.
+    /// Keeps the room of ids that are done with, column by column. None is kept where an id of some
+    /// column takes four bytes: the column has many values, and its dictionary in the next segment,
+    /// which is read first, is as large as the room.
     pub fn give_back(&mut self, ids: Vec<Option<Ids>>) {
-        self.rooms = ids;
+        if are_narrow(ids.as_slice()) {
+            self.rooms = ids;
+        }
     }
 
     /// Room for the ids of so many rows in a column of so many values.
@@ -52,4 +56,15 @@ impl IdRooms {
         }
         replace(&mut self.rooms[at], None)
     }
+}
+
+// Whether an id of each of some columns takes two bytes.
+fn are_narrow(columns: &[Option<Ids>]) -> bool {
+    let mut all = true;
+    for ids in columns {
+        if let Some(ids) = ids {
+            all &= ids.are_narrow();
+        }
+    }
+    all
 }

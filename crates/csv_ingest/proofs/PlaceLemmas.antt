@@ -1,69 +1,87 @@
 -- Places by the bits of a mask.
-use Rattle.std.proofs.Common.{◌≡◌, ◌∙◌, ◌<◌, ◌≤◌, ◌+◌, ◌-◌, ◌*◌, ◌/◌, ◌%◌, ◌^◌, ◌++◌, ℕ, suc, Bool, true, false, not, cond, List, [], ◌∷◌, length, map, take, drop, get_or, refl, sym, ap, ap₂, subst, arith, append-nil, append_assoc, take-add, Fits, w8}
-use Rattle.std.proofs.Math.Nat.{pow-suc, mul-div-mul_left, div-le_self}
+use Rattle.std.proofs.Common.{◌≡◌, ◌∙◌, ◌<◌, ◌≤◌, ◌+◌, ◌-◌, ◌*◌, ◌/◌, ◌%◌, ◌^◌, ◌++◌, ℕ, suc, Bool, true, false, not, cond, List, [], ◌∷◌, length, map, take, drop, get_or, refl, sym, ap, ap₂, subst, arith, bit_and, append-nil, append_assoc, map-id, take-add, Fits, w8}
+use Rattle.std.proofs.lemmas.Nat.{and_le_r, and_mod, and_shr}
 use Rattle.std.proofs.lemmas.Simd.{trailing_mask_l, map-map, mask_l-mod, length-chunk, get_or-chunk}
-use Rattle.std.proofs.lemmas.List.{length-drop, drop-drop, length-map, length-take, take-append-drop, take_more}
+use Rattle.std.proofs.lemmas.List.{length-drop, length-map, length-take, take-append-drop, take_more}
 use Rattle.std.proofs.lemmas.Bool.{agree_below, agree_below_at}
 use lib.Lanes.{chunk, zip2, top}
 use lib.Count.{count_trailing_zeros}
 use Rattle.std.specs.List.{prefix_len}
 use Rattle.std.specs.Simd.Lanes.{mask_l}
+use Rattle.std.specs.Int.Bits.{and_self, and_zero_l, and_zero_r}
 use Rattle.csv_ingest.specs.Parts.{AreMarks}
 use Rattle.csv_ingest.specs.Places.{is_separator, places}
 
-pub none_left : (p : ℕ → Bool) (xs : List ℕ) (at : ℕ) → mask_l (map p xs) ≡ 0 → places p at xs ≡ []
-none_left p [] at none = refl
-none_left p (x ∷ xs) at none = by_test (p x) refl (none_left p xs (at + 1))
-  where
-    by_test : (b : Bool) → p x ≡ b → (mask_l (map p xs) ≡ 0 → places p (at + 1) xs ≡ []) → places p at (x ∷ xs) ≡ []
-    by_test true e more = let f : 1 + 2 * mask_l (map p xs) ≡ 0 = sym (ap (λ b. cond b 1 0 + 2 * mask_l (map p xs)) e) ∙ none in absurd (omega (arith, f))
-    by_test false e more =
-        let f : 0 + 2 * mask_l (map p xs) ≡ 0 = sym (ap (λ b. cond b 1 0 + 2 * mask_l (map p xs)) e) ∙ none in
-        ap (λ b. cond b (at ∷ places p (at + 1) xs) (places p (at + 1) xs)) e ∙ more (omega (arith, f))
+-- the places of the bits of a mask that are set
+abbrev pub set_places : ℕ → List Bool → List ℕ
+set_places at [] = []
+set_places at (bit ∷ bits) = cond bit (at ∷ set_places (at + 1) bits) (set_places (at + 1) bits)
 
--- the first place where the test holds
-pub record IsNext (p : ℕ → Bool) (xs : List ℕ) (at j : ℕ) : Type 0 where
-  pub within : j < length xs
-  pub first : places p at xs ≡ (at + j) ∷ places p (at + j + 1) (drop (suc j) xs)
-  pub half : mask_l (map p xs) / 2 ^ j / 2 ≡ mask_l (map p (drop (suc j) xs))
+-- the bits without the first one that is set
+abbrev pub without_first : List Bool → List Bool
+without_first [] = []
+without_first (bit ∷ bits) = false ∷ cond bit bits (without_first bits)
 
-pub next : (p : ℕ → Bool) (xs : List ℕ) (at : ℕ) → 0 < mask_l (map p xs) → IsNext p xs at (prefix_len (λ x. not (p x)) xs)
-next p [] at some = absurd (omega (arith, some))
-next p (x ∷ xs) at some = by_test (p x) refl (next p xs (at + 1))
-  where
-    q : ℕ → Bool
-    q y = not (p y)
+set_map : (p : ℕ → Bool) (xs : List ℕ) (at : ℕ) → set_places at (map p xs) ≡ places p at xs
+set_map p [] at = refl
+set_map p (x ∷ xs) at = ap (λ l. cond (p x) (at ∷ l) l) (set_map p xs (at + 1))
 
-    mask : ℕ
-    mask = mask_l (map p xs)
+none_set : (bits : List Bool) (at : ℕ) → mask_l bits ≡ 0 → set_places at bits ≡ []
+none_set [] at none = refl
+none_set (true ∷ bits) at none = absurd (omega (arith, none))
+none_set (false ∷ bits) at none = none_set bits (at + 1) (omega (arith, none))
 
-    by_test : (b : Bool) → p x ≡ b → (0 < mask → IsNext p xs (at + 1) (prefix_len q xs)) → IsNext p (x ∷ xs) at (prefix_len (λ y. not (p y)) (x ∷ xs))
-    by_test true e after =
-        let here : at ≡ at + 0 = omega arith in
-        subst (IsNext p (x ∷ xs) at) (sym (ap (λ b. cond (not b) (1 + prefix_len q xs) 0) e))
-        (record {
-          within = omega arith;
-          first = ap (λ b. cond b (at ∷ places p (at + 1) xs) (places p (at + 1) xs)) e ∙ ap (λ a. a ∷ places p (a + 1) xs) here;
-          half = ap (λ b. (cond b 1 0 + 2 * mask) / 2 ^ 0 / 2) e ∙ (omega arith);
-        })
-    by_test false e after =
-        let more : 0 < mask = let s : 0 < 0 + 2 * mask = subst (λ b. 0 < cond b 1 0 + 2 * mask) e some in omega (arith, s) in
-        let n = after more in
-        let j = prefix_len q xs in
-        let there : at + 1 + j ≡ at + suc j = omega arith in
-        let twice : 2 ^ suc j ≡ 2 * 2 ^ j = let w = pow-suc 2 j in omega (arith, w) in
-        let len : suc j ≡ 1 + j = omega arith in
-        let plain : 0 + 2 * mask ≡ 2 * mask = omega arith in
-        subst (IsNext p (x ∷ xs) at) (len ∙ sym (ap (λ b. cond (not b) (1 + j) 0) e))
-        (record {
-          within = let w = n.within in omega (arith, w);
-          first = ap (λ b. cond b (at ∷ places p (at + 1) xs) (places p (at + 1) xs)) e ∙ n.first ∙ ap (λ a. a ∷ places p (a + 1) (drop (suc j) xs)) there;
-          half =
-              ap (λ b. (cond b 1 0 + 2 * mask) / 2 ^ suc j / 2) e
-              ∙ ap (λ w. (0 + 2 * mask) / w / 2) twice
-              ∙ ap (λ m. m / (2 * 2 ^ j) / 2) plain
-              ∙ ap (λ w. w / 2) (mul-div-mul_left {m = 2} mask (2 ^ j) (omega arith)) ∙ n.half;
-        })
+-- a number without its lowest one
+odd_without : (m : ℕ) → bit_and (1 + 2 * m) (1 + 2 * m - 1) ≡ 0 + 2 * m
+odd_without m =
+    let n = 1 + 2 * m in
+    let own : n / 2 ≡ m = omega arith in
+    let less : (n - 1) / 2 ≡ m = omega arith in
+    let even : (n - 1) % 2 ≡ 0 = omega arith in
+    let half : bit_and n (n - 1) / 2 ≡ m = and_shr n (n - 1) 1 ∙ ap₂ bit_and own less ∙ and_self m in
+    let low : bit_and n (n - 1) % 2 ≡ 0 = and_mod n (n - 1) 1 ∙ ap (bit_and (n % 2)) even ∙ and_zero_r (n % 2) in
+    omega (arith, half, low)
+
+even_without : (m k : ℕ) → 0 < m → bit_and m (m - 1) ≡ k → bit_and (0 + 2 * m) (0 + 2 * m - 1) ≡ 0 + 2 * k
+even_without m k some is =
+    let n = 0 + 2 * m in
+    let own : n / 2 ≡ m = omega arith in
+    let less : (n - 1) / 2 ≡ m - 1 = omega (arith, some) in
+    let even : n % 2 ≡ 0 = omega arith in
+    let half : bit_and n (n - 1) / 2 ≡ k = and_shr n (n - 1) 1 ∙ ap₂ bit_and own less ∙ is in
+    let low : bit_and n (n - 1) % 2 ≡ 0 = and_mod n (n - 1) 1 ∙ ap (λ x. bit_and x ((n - 1) % 2)) even ∙ and_zero_l ((n - 1) % 2) in
+    omega (arith, half, low)
+
+-- the first bit that is set
+record IsFirst (bits : List Bool) (at j : ℕ) : Type 0 where
+  pub within : j < length bits
+  pub there : set_places at bits ≡ (at + j) ∷ set_places at (without_first bits)
+  pub rest : bit_and (mask_l bits) (mask_l bits - 1) ≡ mask_l (without_first bits)
+
+first_set : (bits : List Bool) (at : ℕ) → 0 < mask_l bits → IsFirst bits at (prefix_len not bits)
+first_set [] at some = absurd (omega (arith, some))
+first_set (true ∷ bits) at some =
+    let here : at ≡ at + 0 = omega arith in
+    record {
+      within = omega arith;
+      there = ap (λ a. a ∷ set_places (at + 1) bits) here;
+      rest = odd_without (mask_l bits);
+    }
+first_set (false ∷ bits) at some =
+    let more : 0 < mask_l bits = omega (arith, some) in
+    let f = first_set bits (at + 1) more in
+    let j = prefix_len not bits in
+    let next : at + 1 + j ≡ at + (1 + j) = omega arith in
+    record {
+      within = let w = f.within in omega (arith, w);
+      there = f.there ∙ ap (λ a. a ∷ set_places (at + 1) (without_first bits)) next;
+      rest = even_without (mask_l bits) (mask_l (without_first bits)) more f.rest;
+    }
+
+length_without : (bits : List Bool) → length (without_first bits) ≡ length bits
+length_without [] = refl
+length_without (true ∷ bits) = refl
+length_without (false ∷ bits) = ap suc (length_without bits)
 
 pub places-append : (p : ℕ → Bool) (xs ys : List ℕ) (at : ℕ) → places p at (xs ++ ys) ≡ places p at xs ++ places p (at + length xs) ys
 places-append p [] ys at = let here : at ≡ at + 0 = omega arith in ap (λ a. places p a ys) here
@@ -95,58 +113,50 @@ first-marks text out n is = record {
 
 -- ---- the bits of one block
 
--- what is done while the bits are taken, from the lowest on
-pub record Taken (p : ℕ → Bool) (block : List ℕ) (at place rest : ℕ) (start out : List ℕ) : Type 0 where
-  pub low : at ≤ place
-  pub bits : rest ≡ mask_l (map p (drop (place - at) block))
-  pub done : out ++ places p place (drop (place - at) block) ≡ start ++ places p at block
+-- what is done while the bits are taken, from the lowest on: these are left
+pub record Taken (p : ℕ → Bool) (block : List ℕ) (at left : ℕ) (start out : List ℕ) : Type 0 where
+  pub bits : List Bool
+  pub few : length bits ≤ 64
+  pub mask : left ≡ mask_l bits
+  pub done : out ++ set_places at bits ≡ start ++ places p at block
 
-pub none_taken : (p : ℕ → Bool) (block : List ℕ) (at rest : ℕ) (start : List ℕ) → rest ≡ mask_l (map p block) → Taken p block at at rest start start
-none_taken p block at rest start is =
-    let zero_off : 0 ≡ at - at = omega arith in
-    record {
-      low = omega arith;
-      bits = is ∙ ap (λ k. mask_l (map p (drop k block))) zero_off;
-      done = sym (ap (λ k. start ++ places p at (drop k block)) zero_off);
-    }
+pub none_taken : (p : ℕ → Bool) (block : List ℕ) (at left : ℕ) (start : List ℕ) → length block ≤ 64 → left ≡ mask_l (map p block) → Taken p block at left start start
+none_taken p block at left start few is = record {
+  bits = map p block;
+  few = omega (arith, few, length-map block p);
+  mask = is;
+  done = ap (λ l. start ++ l) (set_map p block at);
+}
 
-pub all_taken : (p : ℕ → Bool) (block : List ℕ) (at place : ℕ) (start out : List ℕ) → Taken p block at place 0 start out → out ≡ start ++ places p at block
-all_taken p block at place start out t = sym (append-nil out) ∙ ap (λ l. out ++ l) (sym (none_left p (drop (place - at) block) place (sym t.bits))) ∙ t.done
+pub all_taken : (p : ℕ → Bool) (block : List ℕ) (at : ℕ) (start out : List ℕ) → Taken p block at 0 start out → out ≡ start ++ places p at block
+all_taken p block at start out t = sym (append-nil out) ∙ ap (λ l. out ++ l) (sym (none_set t.bits at (sym t.mask))) ∙ t.done
 
-pub one_taken : (p : ℕ → Bool) (block : List ℕ) (at place rest j : ℕ) (start out : List ℕ) → length block ≤ 64 → 0 < rest → j ≡ count_trailing_zeros 64 rest
-    → Taken p block at place rest start out
-    → (place + j < at + length block) × Taken p block at (place + j + 1) (rest / 2 ^ j / 2) start (out ++ (place + j) ∷ [])
-one_taken p block at place rest j start out few some is t = (
-  omega (arith, n.within, left, t.low),
+pub one_taken : (p : ℕ → Bool) (block : List ℕ) (at left j : ℕ) (start out : List ℕ) → 0 < left → j ≡ count_trailing_zeros 64 left
+    → Taken p block at left start out → (j < 64) × Taken p block at (bit_and left (left - 1)) start (out ++ (at + j) ∷ [])
+one_taken p block at left j start out some is t = (
+  let w = f.within in omega (arith, w, t.few),
   record {
-    low = omega (arith, t.low);
-    bits = ap (λ m. m / 2 ^ j / 2) t.bits ∙ n.half ∙ ap (λ b. mask_l (map p b)) further;
-    done =
-        append_assoc out ((place + j) ∷ []) (places p (place + j + 1) (drop (place + j + 1 - at) block))
-        ∙ ap (λ b. out ++ (place + j) ∷ places p (place + j + 1) b) (sym further)
-        ∙ ap (λ l. out ++ l) (sym n.first) ∙ t.done;
+    bits = without_first t.bits;
+    few = omega (arith, t.few, length_without t.bits);
+    mask = ap (λ n. bit_and n (n - 1)) t.mask ∙ f.rest;
+    done = append_assoc out ((at + j) ∷ []) (set_places at (without_first t.bits)) ∙ ap (λ l. out ++ l) (sym f.there) ∙ t.done;
   },
 )
   where
-    left_block : List ℕ
-    left_block = drop (place - at) block
+    there : 0 < mask_l t.bits
+    there = subst (λ m. 0 < m) t.mask some
 
-    left : length left_block ≡ length block - (place - at)
-    left = length-drop (place - at) block
+    same : map (λ b. b) t.bits ≡ t.bits
+    same = map-id t.bits
 
-    j_is : prefix_len (λ x. not (p x)) left_block ≡ j
-    j_is = sym (is ∙ ap (count_trailing_zeros 64) t.bits ∙ trailing_mask_l p 64 left_block (omega (arith, left, few)) (subst (λ m. 0 < m) t.bits some))
+    j_is : prefix_len not t.bits ≡ j
+    j_is = sym (is ∙ ap (count_trailing_zeros 64) (t.mask ∙ ap mask_l (sym same)) ∙ trailing_mask_l (λ b. b) 64 t.bits t.few (subst (λ m. 0 < mask_l m) (sym same) there))
 
-    n : IsNext p left_block place j
-    n = subst (IsNext p left_block place) j_is (next p left_block place (subst (λ m. 0 < m) t.bits some))
+    f : IsFirst t.bits at j
+    f = subst (IsFirst t.bits at) j_is (first_set t.bits at there)
 
-    further : drop (suc j) left_block ≡ drop (place + j + 1 - at) block
-    further =
-        let sum : place - at + suc j ≡ place + j + 1 - at = omega (arith, t.low) in
-        drop-drop (suc j) (place - at) block ∙ ap (λ k. drop k block) sum
-
-pub smaller : (rest j : ℕ) → 0 < rest → rest / 2 ^ j / 2 < rest
-smaller rest j some = let le = div-le_self rest (2 ^ j) in omega (arith, le)
+pub less_left : (left : ℕ) → 0 < left → bit_and left (left - 1) < left
+less_left left some = omega (arith, and_le_r left (left - 1), some)
 
 -- ---- all blocks
 

@@ -46,14 +46,11 @@ fn push_block(text: &[u8], at: usize, out: &mut Vec<u32>) -> Result<(), AllocErr
     ensures { OnOk result (out.new.items
         ≡ out.old.items ++ places is_separator at (take 64 (drop at text.now))) }
 {
-    let mut rest = mask_at(text, at);
-    let mut place = at;
-    'bits: while rest != 0 {
-        let skipped = rest.trailing_zeros();
-        place += skipped as usize;
-        out.push(place as u32)?;
-        place += 1;
-        rest = rest >> skipped >> 1;
+    let first = at as u32;
+    let mut left = mask_at(text, at);
+    'bits: while left != 0 {
+        out.push(first + left.trailing_zeros())?;
+        left = left & (left - 1);
     }
     Ok(())
 }

@@ -1,5 +1,5 @@
 -- A scan of some documents of a segment: what it does to groups, and what it reads.
-use Rattle.std.specs.Prelude.{◌≡◌, ◌⊎◌, ℕ, Bool, List, length, Option, IfSome}
+use Rattle.std.specs.Prelude.{◌≡◌, ◌≤◌, ◌<◌, ◌⊎◌, ℕ, All, Bool, List, length, Option, IfSome}
 use Rattle.outside.specs.Files.{Files}
 use Rattle.outside.specs.Reads.{Entry}
 use Rattle.values.specs.declared.value.Value.{Value}
@@ -11,6 +11,7 @@ use Rattle.scan_engine.specs.Places.{rows_at}
 use Rattle.scan_engine.specs.Scanned.{AddsRows, selected}
 use Rattle.segment_head.specs.Heads.{Seen}
 use Rattle.segment_plan.specs.declared.plans.IndexChoice.{IndexChoice}
+use Rattle.coded_columns.specs.Coded.{most_rows}
 use Rattle.column_reader.specs.Bytes.{GrowsBy, most_bytes}
 use Rattle.column_reader.specs.Picked.{LogsPicked, LogsPickedPartly}
 use Rattle.segment_scan.specs.Scans.{columns_read}
@@ -30,6 +31,11 @@ pub record AddsDocs (query : BoundQuery) (choices : List IndexChoice) (held : Op
   pub rows : List (List Value)
   pub adds : AddsRows query (length docs) rows old new
   pub told : IfSome held (λ files. rows ≡ selected_docs query choices files head named docs)
+
+-- documents of a segment, which has no more rows than a scan takes
+pub record AreDocsOf (head : Seen) (docs : List ℕ) : Type 0 where
+  pub few_rows : head.rows ≤ most_rows
+  pub within : All (λ doc. doc < head.rows) docs
 
 -- of the columns that are named the ids of the documents were read, by runs of documents that
 -- follow one another, one read a run: at most four bytes a document and column

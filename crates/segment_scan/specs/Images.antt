@@ -61,10 +61,11 @@ abbrev pub HasUnsureFor : BoundQuery → Table → Option Files → Seen → Lis
 HasUnsureFor query table held head unsure = HasUnsure held head
     (choices_for query table head) query.conjuncts (length query.conjuncts) unsure
 
--- what the indexes leave: these documents in ascending order, and those that are not sure among
--- others
+-- what the indexes leave by the choices of a plan: these documents in ascending order, and those
+-- that are not sure among others
 pub record AreLeftBy (query : BoundQuery) (table : Table) (held : Option Files) (head : Seen)
-    (docs others : List ℕ) : Type 0 where
+    (choices : List IndexChoice) (docs others : List ℕ) : Type 0 where
+  pub planned : choices ≡ choices_for query table head
   pub left : AreLeftFor query table held head docs
   pub ascend : IsStrictlyIncreasing docs
   pub unsure : HasUnsureFor query table held head others

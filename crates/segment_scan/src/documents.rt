@@ -1,18 +1,16 @@
 //! The rows of some documents of a segment, added to the groups of a query.
 
-ghost use Rattle.std.specs.Prelude.{◌≡◌, ◌<◌, ◌≤◌, ℕ, All, Err, IfOk, IfSome, OnOk, false, get_or, length, true};
-ghost use Rattle.std.specs.FinMap as finite;
+ghost use Rattle.std.specs.Prelude.{◌≡◌, ◌≤◌, ℕ, Err, IfOk, IfSome, OnOk, false, get_or, length, true};
 ghost use Rattle.outside.specs.Seen.{seen};
-ghost use Rattle.group_table.specs.Kept.{groups_in};
+ghost use Rattle.group_table.specs.Kept.{FillsUp};
 ghost use Rattle.group_table.specs.Pooled.{IsTableIn, StaysIn, in_pool};
 ghost use Rattle.scan_engine.specs.Scanned.{IsOverfull};
 ghost use Rattle.segment_file.specs.declared.part.Part.{Part};
 ghost use Rattle.segment_file.specs.declared.part.Part.TheVariants.{Forward};
-ghost use Rattle.coded_columns.specs.Coded.{most_rows};
 ghost use Rattle.column_reader.specs.Calls.{ReadsSections};
 ghost use Rattle.column_reader.specs.Forward.{AreReadable, HasIds};
 ghost use Rattle.segment_scan.specs.Scans.{HaveRoom};
-ghost use Rattle.segment_scan.specs.Documents.{AddsDocs, LogsDocs, LogsDocsPartly, selected_docs};
+ghost use Rattle.segment_scan.specs.Documents.{AddsDocs, AreDocsOf, LogsDocs, LogsDocsPartly, selected_docs};
 ghost use Rattle.segment_head.specs.declared.fault.EngineFault.TheVariants.{NotASegment, TooManyGroups};
 
 use crate::answered::Answered;
@@ -41,8 +39,7 @@ pub(crate) fn scan_documents<S: Shelf>(
     pool: &mut SlotPool,
 ) -> Result<(), EngineFault>
     requires pooled { IsTableIn groups.old pool.old }
-    requires few_rows { answered.now.head.now.rows ≤ most_rows }
-    requires within { All (λ doc. doc < answered.now.head.now.rows) docs.now }
+    requires docs { AreDocsOf answered.now.head.now docs.now }
     requires readable { AreReadable answered.now.head.now named.now }
     requires room { HaveRoom answered.now.query.now (length docs.now)
         (in_pool groups.old pool.old) }
@@ -50,11 +47,10 @@ pub(crate) fn scan_documents<S: Shelf>(
     ensures ok { OnOk result (AddsDocs answered.now.query.now choices.now (S.held shelf.old)
         answered.now.head.now named.now docs.now (in_pool groups.old pool.old) (in_pool groups.new
         pool.new)) }
-    ensures full { result ≡ Err TooManyGroups → IfSome (S.held shelf.old) (λ files. IsOverfull
-        answered.now.query.now (selected_docs answered.now.query.now choices.now files
-        answered.now.head.now named.now docs.now) (in_pool groups.old pool.old)) }
-    ensures filled { result ≡ Err TooManyGroups →
-        finite.len (groups_in (in_pool groups.new pool.new)) ≡ groups.old.most }
+    ensures full { result ≡ Err TooManyGroups → FillsUp (IfSome (S.held shelf.old) (λ files.
+        IsOverfull answered.now.query.now (selected_docs answered.now.query.now choices.now files
+        answered.now.head.now named.now docs.now) (in_pool groups.old pool.old)))
+        groups.old.most (in_pool groups.new pool.new) }
     ensures bad { (part : Part) → result ≡ Err (NotASegment part) → (column : ℕ)
         × (get_or named.now column false ≡ true) × (part ≡ Forward column)
         × IfSome (S.held shelf.old) (λ files. ¬ HasIds files answered.now.head.now column) }

@@ -3,14 +3,14 @@
 ghost use Rattle.std.specs.Prelude.{◌≡◌, ◌<◌, All, Err, IfOk, IfSome, OnOk, length};
 ghost use Rattle.std.specs.FinMap as finite;
 ghost use Rattle.outside.specs.Seen.{seen};
-ghost use Rattle.group_table.specs.Kept.{groups_in};
+ghost use Rattle.group_table.specs.Kept.{FillsUp, groups_in};
 ghost use Rattle.group_table.specs.Pooled.{IsTableIn, StaysIn, in_pool};
 ghost use Rattle.scan_engine.specs.Scanned.{IsOverfull};
 ghost use Rattle.column_reader.specs.Calls.{ReadsSections};
 ghost use Rattle.segment_scan.specs.Scans.{IsScannable};
 ghost use Rattle.segment_file.specs.declared.part.Part.{Part};
 ghost use Rattle.segment_scan.specs.Documents.{AddsDocs, LogsDocs, LogsDocsPartly, selected_docs};
-ghost use Rattle.segment_scan.specs.Images.{AddsImage, AreDocs, AreLeftBy, IsBadForward, IsImageOverfull, LogsLeft, LogsParts, LogsPartsPartly, choices_for, rest_for};
+ghost use Rattle.segment_scan.specs.Images.{AddsImage, AreDocs, AreLeftBy, IsBadForward, IsImageOverfull, LogsLeft, LogsParts, LogsPartsPartly, rest_for};
 ghost use Rattle.segment_head.specs.Stored.{IsNoImage};
 ghost use Rattle.segment_plan.specs.Named.{names_in};
 ghost use Rattle.segment_plan.specs.Served.{rest_of};
@@ -43,21 +43,17 @@ pub(crate) fn scan_left<S: Shelf>(
     requires pooled { IsTableIn groups.old pool.old }
     requires scans { IsScannable answered.now.query.now answered.now.table.now
         answered.now.head.now answered.now.head.now.rows (in_pool groups.old pool.old) }
-    requires planned { choices.now ≡ choices_for answered.now.query.now answered.now.table.now
-        answered.now.head.now }
     requires leaves { AreLeftBy answered.now.query.now answered.now.table.now (S.held shelf.old)
-        answered.now.head.now docs.now unsure.now }
+        answered.now.head.now choices.now docs.now unsure.now }
     ensures number { IfOk result (λ n. n ≡ length docs.now) }
     ensures count { IfOk result (AreDocs answered.now.query.now answered.now.table.now
         (S.held shelf.old) answered.now.head.now) }
     ensures ok { OnOk result (AddsImage answered.now.query.now answered.now.table.now
         (S.held shelf.old) answered.now.head.now (in_pool groups.old pool.old) (in_pool groups.new
         pool.new)) }
-    ensures full { result ≡ Err TooManyGroups → IsImageOverfull answered.now.query.now
+    ensures full { result ≡ Err TooManyGroups → FillsUp (IsImageOverfull answered.now.query.now
         answered.now.table.now (S.held shelf.old) answered.now.head.now (in_pool groups.old
-        pool.old) }
-    ensures filled { result ≡ Err TooManyGroups →
-        finite.len (groups_in (in_pool groups.new pool.new)) ≡ groups.old.most }
+        pool.old)) groups.old.most (in_pool groups.new pool.new) }
     ensures bad { (part : Part) → result ≡ Err (NotASegment part) →
         IsBadForward (rest_for answered.now.query.now answered.now.table.now
         answered.now.head.now) (S.held shelf.old) answered.now.head.now part

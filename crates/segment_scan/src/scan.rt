@@ -1,9 +1,8 @@
 //! A segment is scanned for a query: what the query names is read, and the rows are added.
 
 ghost use Rattle.std.specs.Prelude.{◌≡◌, ◌<◌, ◌≤◌, ℕ, List, Err, IfOk, IfSome, None, OnOk, Some, false, get_or, length, true};
-ghost use Rattle.std.specs.FinMap as finite;
 ghost use Rattle.outside.specs.Seen.{seen};
-ghost use Rattle.group_table.specs.Kept.{groups_in};
+ghost use Rattle.group_table.specs.Kept.{FillsUp};
 ghost use Rattle.group_table.specs.Pooled.{IsTableIn, StaysIn, in_pool};
 ghost use Rattle.scan_engine.specs.Scanned.{IsOverfull};
 ghost use Rattle.segment_head.specs.Heads.{IsLoaded};
@@ -65,11 +64,9 @@ pub(crate) fn scan_columns<S: Shelf>(
     ensures count { IfOk result (λ n. n ≡ head.now.rows) }
     ensures ok { OnOk result (AddsSegment query.now (S.held shelf.old) head.now named.now
         (in_pool groups.old pool.old) (in_pool groups.new pool.new)) }
-    ensures full { result ≡ Err TooManyGroups → IfSome (S.held shelf.old) (λ files.
+    ensures full { result ≡ Err TooManyGroups → FillsUp (IfSome (S.held shelf.old) (λ files.
         IsOverfull query.now (selected_read query.now files head.now named.now) (in_pool groups.old
-        pool.old)) }
-    ensures filled { result ≡ Err TooManyGroups →
-        finite.len (groups_in (in_pool groups.new pool.new)) ≡ groups.old.most }
+        pool.old))) groups.old.most (in_pool groups.new pool.new) }
     ensures bad { (part : Part) → result ≡ Err (NotASegment part) → (column : ℕ)
         × (get_or named.now column false ≡ true) × (part ≡ Forward column)
         × IfSome (S.held shelf.old) (λ files. ¬ HasIds files head.now column) }

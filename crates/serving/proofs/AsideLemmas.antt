@@ -1,28 +1,25 @@
 -- A segment goes while cursors are open: the cursors that are left, and what the call answers.
-use Rattle.std.proofs.Common.{◌≡◌, ◌≢◌, ◌∙◌, ◌+◌, ◌<◌, ◌≤◌, ◌||◌, ◌⊎◌, inl, inr, ℕ, zero, suc, Bool, true, false, cond, nat_eq, List, [], ◌∷◌, ◌++◌, drop, get_or, length, map, set, take, Option, Some, None, IfSome, Result, Ok, Err, refl, sym, ap, subst, arith, is_some, option_map, slice_get}
+use Rattle.std.proofs.Common.{◌≡◌, ◌≢◌, ◌∙◌, ◌+◌, ◌<◌, ◌||◌, ◌⊎◌, inl, inr, ℕ, zero, suc, Bool, true, false, cond, nat_eq, List, [], ◌∷◌, ◌++◌, drop, get_or, length, map, set, Option, Some, None, IfSome, Ok, Err, refl, sym, ap, subst, arith, is_some, option_map, slice_get}
 use Rattle.std.specs.Prelude.{IsSomeAnd}
 use Rattle.std.specs.FinMap as finite
 use Rattle.std.specs.Global.{Vec}
-use Rattle.std.specs.List.{All, AllByRecursion, IsDistinct, list_any}
+use Rattle.std.specs.List.{AllByRecursion, IsDistinct, list_any}
 use borrow.Author.Tests.{eqb-true}
 use Rattle.std.proofs.lemmas.Bool.{false≢true}
 use Rattle.std.proofs.lemmas.Cmp.{nat_list_cmp_total}
-use Rattle.std.proofs.lemmas.List.{drop-map, length-map, take_all, take_more}
-use Rattle.outside.specs.Files.{Files, Lacks, bytes_of, name_order, with_file, without_file}
+use Rattle.std.proofs.lemmas.List.{drop-map, length-map}
+use Rattle.outside.specs.Files.{Files, Lacks, bytes_of, with_file, without_file}
 use Rattle.values.specs.declared.value.Value.{Value}
-use Rattle.table_schema.specs.ValidTable.{AreRows, IsValidTable}
 use Rattle.table_schema.specs.declared.table.Table.{Table}
-use Rattle.segment_build.specs.Growing.{TreesFit, trees_fit}
+use Rattle.segment_build.specs.Growing.{trees_fit}
 use Rattle.segment_file.specs.Image.{CanHold, image}
 use Rattle.segment_file.specs.Names.{IsSegmentName, file_of}
 use Rattle.segment_file.specs.Ordered.{ordered}
 use Rattle.state_pool.specs.Pool.{Pool}
-use Rattle.table_store.specs.Images.{IsUnicode}
 use Rattle.table_store.specs.Kept.{IsKeptName, kept_name}
 use Rattle.table_store.specs.Segments.{HasSegment, LacksSegment}
 use Rattle.table_store.specs.Stands.{DropStands, KeptIdle, ReplaceStands, Stands, segment_file}
-use Rattle.table_store.specs.Stands as stored
-use Rattle.table_store.specs.State.{HasTable, Segment, Segments, Texts}
+use Rattle.table_store.specs.State.{HasTable, Texts}
 use Rattle.table_store.specs.declared.fault.StoreFault.{StoreFault}
 use Rattle.table_store.specs.declared.fault.StoreFault.TheVariants as store
 use Rattle.table_store.proofs.FilesLemmas.{same_name as one_name}
@@ -30,23 +27,22 @@ use Rattle.table_store.proofs.KeptLemmas.{live_name}
 use Rattle.table_store.proofs.KeyLemmas.{segment_there}
 use Rattle.query_executor.proofs.EndLemmas.{Failed, own_fault}
 use Rattle.cursor_serve.specs.Machine.{After, Cursor as Kept, Drop, Listed, Live, Machine, Replace, Version, dropped, dropped_by, has_number, is_awaited, replaced, replaced_by}
-use Rattle.cursor_serve.specs.Numbered.{IsListIn, IsNumbered, IsOneOf}
+use Rattle.cursor_serve.specs.Numbered.{IsNumbered, IsOneOf}
 use Rattle.cursor_serve.specs.Sound.{IsSound}
-use Rattle.cursor_serve.specs.ServingStands.{BothKept, IsKeptAs, OpenCursor, ServingStands, first_of, is_live_by, kept_files, kept_under, segment_of, segments_of, stands_as}
+use Rattle.cursor_serve.specs.ServingStands.{BothKept, OpenCursor, ServingStands, first_of, is_live_by, kept_files, kept_under, segment_of, segments_of, stands_as}
 use Rattle.cursor_serve.proofs.FetchLemmas.{itself, tied}
 use Rattle.cursor_serve.proofs.NumberedLemmas.{stays_numbered}
-use Rattle.cursor_serve.proofs.SoundLemmas.{all_so, any_found, stays_sound}
-use Rattle.serving.specs.Aside.{HasAnsweredFiles, MayHaveCopy, files_aside, is_awaited_in, kept_if, stands_aside, with_copy, with_files, without_name}
+use Rattle.cursor_serve.proofs.SoundLemmas.{any_found, stays_sound}
+use Rattle.serving.specs.Aside.{MayHaveCopy, files_aside, is_awaited_in, kept_if, stands_aside, with_copy, with_files, without_name}
 use Rattle.serving.specs.Calls.{HasNoPlaceFor, IsAnsweredAs, SameButOf, Serves}
-use Rattle.serving.specs.Closed.{has_file, is_file}
-use Rattle.serving.specs.Faults.{IsDropFault, IsReplaceFault, of_store}
+use Rattle.serving.specs.Closed.{has_file}
+use Rattle.serving.specs.Faults.{of_store}
 use Rattle.serving.specs.Kept.{AreCursors, IsCursorIn, IsOver, cursor_in, cursors_in, owners_of, same_name}
 use Rattle.serving.specs.declared.cursor.Cursor.{Cursor}
 use Rattle.serving.specs.declared.fault.ServeFault.{ServeFault}
 use Rattle.serving.specs.declared.fault.ServeFault.TheVariants as fault
 use Rattle.serving.proofs.CloseLemmas.{differ, has_mapped, mapped_has, number_of}
-use Rattle.serving.proofs.ClosedLemmas.{IsAtPlace, at_of, got_at, under_at}
-use Rattle.serving.proofs.GoneLemmas.{any_joined}
+use Rattle.serving.proofs.ClosedLemmas.{IsAtPlace, at_of, under_at}
 use Rattle.serving.proofs.LeavingLemmas.{Leaves, awaited_in, first_kept, file_one, leaves_stand, leaving, named_kept, of_cursor, open_aside, stands_live}
 use Rattle.serving.proofs.OpenLemmas.{segments_got}
 
@@ -79,9 +75,6 @@ with_last [] f (x ∷ cs) c lt is = ap (λ (x : Cursor). record x { files = f } 
 with_last (g ∷ fs) f (x ∷ cs) c lt is = ap (λ l. record x { files = g } ∷ l) (with_last fs f cs c (omega (arith, lt)) is)
 
 module _ (file : List ℕ) (kept : Option (List ℕ)) where
-  pub long_aside : (fs : List (Vec (Option (List ℕ)))) (ds : List Cursor) → map (λ f. f.items) fs ≡ files_aside file kept ds → length fs ≡ length ds
-  long_aside fs ds is = sym (length-map fs (λ f. f.items)) ∙ ap length is ∙ length-map ds (λ (d : Cursor). map (stands_aside file kept) d.files.items)
-
   seen_aside : (pool : Pool) (fs : List (Vec (Option (List ℕ)))) (ds : List Cursor) → map (λ f. f.items) fs ≡ files_aside file kept ds → cursors_in pool (with_files fs ds) ≡ map (open_aside file kept) (cursors_in pool ds)
   seen_aside pool [] [] is = refl
   seen_aside pool [] (d ∷ ds) is = absurd cc
@@ -164,7 +157,7 @@ found_at file (d ∷ ds) any = by (has_file file (drop d.answered d.files.items)
     by true e any more = record { i = 0; d = d; got = refl; has = e }
     by false e any more = let r = more any in record { i = suc r.i; d = r.d; got = r.got; has = r.has }
 
-pub any_at : (file : List ℕ) (ds : List Cursor) (i : ℕ) (d : Cursor) → slice_get ds i ≡ Some d → has_file file (drop d.answered d.files.items) ≡ true → is_awaited_in file ds ≡ true
+any_at : (file : List ℕ) (ds : List Cursor) (i : ℕ) (d : Cursor) → slice_get ds i ≡ Some d → has_file file (drop d.answered d.files.items) ≡ true → is_awaited_in file ds ≡ true
 any_at file [] i d got has = absurd cc
 any_at file (x ∷ ds) zero d got has =
     let one : x ≡ d = cc in
@@ -641,68 +634,10 @@ failed_so idle step table pool ds name line all held new copy why own is missed 
 failed_so idle step table pool ds name line all held new copy why own is missed (inr lost) =
     subst (λ w. Serves step table (cursors_in pool ds) (cursors_in pool ds) held new (Err w)) (sym is) (loses idle step table pool ds name line all held new copy why lost)
 
-pub answered_files : (pool : Pool) (ds : List Cursor) → AllByRecursion (IsCursorIn pool) ds → AllByRecursion HasAnsweredFiles ds
-answered_files pool ds all = all_so (IsCursorIn pool) HasAnsweredFiles (λ d is. let le = is.answered in let long = is.files in omega (arith, le, long)) ds all
-
--- ---- which faults a call may answer
-
-lost_only : (why : StoreFault) → IsLost why → IsDropFault (of_store why)
-lost_only store.TableExists lost = absurd lost
-lost_only store.NoTable lost = absurd lost
-lost_only store.NameTaken lost = absurd lost
-lost_only store.NoSegment lost = absurd lost
-lost_only store.TooManySegments lost = absurd lost
-lost_only store.TooLarge lost = absurd lost
-lost_only (store.NotASegment part) lost = absurd lost
-lost_only store.ReadFault lost = tt
-lost_only store.WriteFault lost = tt
-lost_only store.NoMemory lost = tt
-
-pub drop_only : (why : StoreFault) (own : ServeFault) → own ≡ of_store why → (why ≡ store.NoSegment) ⊎ IsLost why → IsDropFault own
-drop_only why own is (inl e) = subst IsDropFault (sym (is ∙ ap of_store e)) tt
-drop_only why own is (inr lost) = subst IsDropFault (sym is) (lost_only why lost)
-
-pub replace_only : (own : ServeFault) → IsDropFault own → IsReplaceFault own
-replace_only fault.CursorTaken may = may
-replace_only fault.TooManyCursors may = may
-replace_only fault.NoCursor may = may
-replace_only fault.TooManyGroups may = may
-replace_only fault.NoSegment may = may
-replace_only fault.TooLarge may = absurd may
-replace_only (fault.NotASegment part) may = may
-replace_only fault.ReadFault may = may
-replace_only fault.WriteFault may = may
-replace_only fault.NoMemory may = may
-
--- ---- the first cursors
-
-module _ (file : List ℕ) (ds : List Cursor) (at : ℕ) where
-  pub awaited_here : (d : Cursor) → at < length ds → d ≡ get_or ds at d → has_file file (drop d.answered d.files.items) ≡ true → is_awaited_in file ds ≡ true
-  awaited_here d lt is has = any_at file ds at d (got_at ds at d d lt (sym is)) has
-
-  pub awaited_more : (d : Cursor) → at < length ds → d ≡ get_or ds at d → is_awaited_in file (take at ds) ≡ false → has_file file (drop d.answered d.files.items) ≡ false → is_awaited_in file (take (at + 1) ds) ≡ false
-  awaited_more d lt is none has =
-      let last : has_file file (drop (get_or ds at d).answered (get_or ds at d).files.items) ≡ false = ap (λ (d : Cursor). has_file file (drop d.answered d.files.items)) (sym is) ∙ has in
-      ap (is_awaited_in file) (take_more ds at d lt) ∙ any_joined (λ (c : Cursor). has_file file (drop c.answered c.files.items)) (take at ds) (get_or ds at d) ∙ (λ i. none i || last i)
-
-  pub awaited_never : length ds ≤ at → is_awaited_in file (take at ds) ≡ false → is_awaited_in file ds ≡ false
-  awaited_never over none = sym (ap (is_awaited_in file) (take_all at ds over)) ∙ none
-
 -- what is lost is no refusal
 pub lost_not_missed : (why : StoreFault) → IsLost why → why ≢ store.NoSegment
 lost_not_missed why lost e = subst IsLost e lost
 
-pub not_large_drop : (own : ServeFault) → IsDropFault own → Failed (Unit {0}) own ≢ Failed (Unit {0}) fault.TooLarge
-not_large_drop own may e = subst IsDropFault (own_fault (Unit {0}) own fault.TooLarge e) may
-
 pub write_not_read : (T : Type 0) (why : StoreFault) → (Failed T why ≡ Failed T store.WriteFault) ⊎ (Failed T why ≡ Failed T store.NoMemory) → why ≢ store.ReadFault
 write_not_read T why (inl e) read = let both : store.WriteFault ≡ store.ReadFault = sym (own_fault T why store.WriteFault e) ∙ read in absurd cc
 write_not_read T why (inr e) read = let both : store.NoMemory ≡ store.ReadFault = sym (own_fault T why store.NoMemory e) ∙ read in absurd cc
-
--- a kept file has the name of one
-pub copy_named : (kept : Option (List ℕ)) (b : Bool) (name : List ℕ) (line : ℕ) → kept ≡ kept_if b name line → IfSome kept IsKeptName
-copy_named kept b name line is = subst (λ k. IfSome k IsKeptName) (sym is) (by b)
-  where
-    by : (b : Bool) → IfSome (kept_if b name line) IsKeptName
-    by true = named_kept name line
-    by false = tt

@@ -18,18 +18,6 @@ use Rattle.serving.specs.declared.fault.ServeFault.TheVariants as fault
 
 -- ---- files that are taken away
 
-pub removes_none : (a : Seen) → OnlyRemoves ⊥ ⊥ a a
-removes_none a = record {
-  parts = refl;
-  log = refl;
-  reads_later = omega arith;
-  read_failed = λ fails. absurd fails;
-  reads_still = λ _. refl;
-  writes_later = omega arith;
-  write_failed = λ fails. absurd fails;
-  writes_still = λ _. refl;
-}
-
 pub removes_after : (W : Type 0) (a b d : Seen) → OnlyRemoves ⊥ ⊥ a b → OnlyRemoves ⊥ W b d → OnlyRemoves ⊥ W a d
 removes_after W a b d first next =
     let reads : b.read_faults ≡ a.read_faults = first.reads_still (λ fails. fails) in
@@ -117,9 +105,6 @@ to_write store.WriteFault e = refl
 to_write store.NoMemory e = absurd cc
 
 module _ (T U : Type 0) where
-  pub fine : (x : T) (y : U) (f : StoreFault) (g : ServeFault) → IsErrOf (Done {E = StoreFault} x) f ↔ IsErrOf (Done {E = ServeFault} y) g
-  fine x y f g = (λ e. absurd (no_err x f e), λ e. absurd (no_err y g e))
-
   pub fails_to_read : (why : StoreFault) (own : ServeFault) → own ≡ of_store why → IsErrOf (Failed T why) store.ReadFault ↔ IsErrOf (Failed U own) fault.ReadFault
   fails_to_read why own is = (
     λ e. ap Err (is ∙ ap of_store (own_fault T why store.ReadFault e)),
@@ -171,11 +156,6 @@ module _ (file : List ℕ) (a b : Seen) (U : Type 0) where
   fails_so T why own is it =
       copies_so file (FailsToRead (Failed T why)) (FailsToWrite (Failed T why)) (IsErrOf (Failed U own) fault.ReadFault) (IsErrOf (Failed U own) fault.WriteFault) a b
       (fails_to_read T U why own is) (fails_to_write T U why own is) it
-
-  pub ends_so : (T : Type 0) (x : T) (y : U) → Copies file (Done {E = StoreFault} x) a b → CopiesSo file (Done {E = ServeFault} y) a b
-  ends_so T x y it =
-      copies_so file (FailsToRead (Done {E = StoreFault} x)) (FailsToWrite (Done {E = StoreFault} x)) (IsErrOf (Done {E = ServeFault} y) fault.ReadFault) (IsErrOf (Done {E = ServeFault} y) fault.WriteFault) a b
-      (fine T U x y store.ReadFault fault.ReadFault) (fine T U x y store.WriteFault fault.WriteFault) it
 
 serve_read_not_large : fault.TooLarge ≢ fault.ReadFault
 serve_read_not_large e = absurd cc

@@ -1,11 +1,11 @@
 -- A cursor at a place is out, as the machine has it.
-use Rattle.std.proofs.Common.{◌≡◌, ◌≢◌, ◌∙◌, ◌+◌, ◌<◌, ◌≤◌, ◌||◌, ◌⊎◌, inl, inr, ℕ, zero, suc, Bool, true, false, cond, nat_eq, List, [], ◌∷◌, ◌++◌, length, map, get_or, Option, Some, None, IfSome, Ok, Err, refl, sym, ap, subst, arith, slice_get}
+use Rattle.std.proofs.Common.{◌≡◌, ◌≢◌, ◌∙◌, ◌<◌, ◌||◌, ◌⊎◌, inl, inr, ℕ, zero, suc, Bool, true, false, cond, nat_eq, List, [], ◌∷◌, length, map, get_or, Option, Some, None, Ok, Err, refl, sym, ap, subst, arith, slice_get}
 use Rattle.std.specs.FinMap as finite
 use Rattle.std.specs.List.{AllByRecursion, IsDistinct, list_any, remove}
 use borrow.Author.Tests.{eqb-true, eqb-false}
 use Rattle.std.proofs.lemmas.Bool.{false≢true}
 use Rattle.std.proofs.lemmas.Map.Keys.{IsDistinct-head, IsDistinct-tail}
-use Rattle.outside.specs.Files.{Files, name_order}
+use Rattle.outside.specs.Files.{Files}
 use Rattle.table_schema.specs.declared.table.Table.{Table}
 use Rattle.state_pool.specs.Pool.{Pool, held}
 use Rattle.group_table.specs.Pooled.{KeepsOthers}
@@ -17,12 +17,12 @@ use Rattle.query_executor.proofs.EndLemmas.{Failed, own_fault}
 use Rattle.serving.specs.Faults.{of_store}
 use Rattle.std.specs.Option.{option_map}
 use Rattle.std.specs.Prelude.{IsSomeAnd}
-use Rattle.table_store.specs.State.{HasTable, Texts}
+use Rattle.table_store.specs.State.{HasTable}
 use Rattle.cursor_serve.specs.Machine as machine
-use Rattle.cursor_serve.specs.Machine.{After, Close, Cursor as Kept, Machine, closed, closed_by}
+use Rattle.cursor_serve.specs.Machine.{After, Close, Machine, closed, closed_by}
 use Rattle.cursor_serve.specs.Numbered.{IsNumbered}
 use Rattle.cursor_serve.specs.Sound.{IsSound}
-use Rattle.cursor_serve.specs.ServingStands.{BothKept, IsKeptAs, OpenCursor, ServingStands, kept_under, segments_of}
+use Rattle.cursor_serve.specs.ServingStands.{OpenCursor, ServingStands, kept_under, segments_of}
 use Rattle.cursor_serve.proofs.FetchLemmas.{itself, tied}
 use Rattle.cursor_serve.proofs.NumberedLemmas.{stays_numbered}
 use Rattle.cursor_serve.proofs.SoundLemmas.{stays_sound}
@@ -30,7 +30,6 @@ use Rattle.serving.specs.Calls.{IsAnsweredAs, Serves}
 use Rattle.serving.specs.Closed.{AreGone, HasNoOther, IsGone, has_file, without_files}
 use Rattle.serving.specs.Kept.{AreCursors, IsCursorIn, KeepsAside, cursor_in, cursors_in, gatherer, owners_of, place_under, same_name}
 use Rattle.serving.specs.declared.cursor.Cursor.{Cursor}
-use Rattle.serving.specs.declared.fault.ServeFault.{ServeFault}
 use Rattle.serving.specs.declared.fault.ServeFault.TheVariants as fault
 use Rattle.serving.proofs.CloseLemmas.{TakesUnder, closes_stand}
 use Rattle.serving.proofs.GoneLemmas.{gone_kept, left_got, left_of, left_stands, without_told}
@@ -226,16 +225,6 @@ seen_at pool (d ∷ ds) (suc at) c got = seen_at pool ds at c got
 
 module _ (table : Table) (idle : KeptIdle) (pool new : Pool) (ds : List Cursor) (name : List ℕ) (at : ℕ) (c dflt : Cursor) (place : place_under name ds ≡ Some at) (got : slice_get ds at ≡ Some c) (is : get_or ds at dflt ≡ c)
     (named : same_name name c.name ≡ true) (all : AreCursors pool ds) where
-  -- a device or memory failed after some kept files were taken away
-  pub closes_failed : (held_old held_new : Option Files) (names : List (List ℕ)) (why : ServeFault) → AllByRecursion IsKeptName names → held_new ≡ without_files names held_old
-      → ((after : After (Unit {0})) (stands : Machine → Type 0) (live : Type 0) → live → IsAnsweredAs after stands live (Err why))
-      → Serves (closed name) table (cursors_in pool ds) (cursors_in pool ds) held_old held_new (Err why)
-  closes_failed None held_new names why kept same f = tt
-  closes_failed (Some files) held_new names why kept same f = λ texts m stands.
-      subst (λ o. IsSomeAnd o (λ left. IsAnsweredAs (closed name m) (ServingStands (cursors_in pool ds) left texts table) (Stands left (HasTable texts (segments_of m.live))) (Err why)))
-      (sym (same ∙ without_told names files))
-      (f (closed name m) (ServingStands (cursors_in pool ds) (left_of names files) texts table) (Stands (left_of names files) (HasTable texts (segments_of m.live))) (left_stands idle texts (segments_of m.live) names files kept stands.live))
-
   module _ (place_c : AtPlace (IsOther c) at c ds) (closes : KeepsOthers c.groups.owner pool new) where
     alone_of : (f : List ℕ) → HasNoOther at ds f → (q : List ℕ) (k : OpenCursor) → same_name q name ≡ false → kept_under q (cursors_in pool ds) ≡ Some k → has_file f k.files ≡ false
     alone_of f none q k apart under =

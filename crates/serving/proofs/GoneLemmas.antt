@@ -1,18 +1,16 @@
 -- Files that are taken away, one after the other.
-use Rattle.std.proofs.Common.{◌≡◌, ◌≢◌, ◌∙◌, ◌+◌, ◌<◌, ◌≤◌, ◌⊎◌, ◌||◌, inl, inr, ℕ, zero, suc, Bool, true, false, cond, List, [], ◌∷◌, ◌++◌, length, take, Option, Some, None, IfSome, refl, sym, ap, subst, arith, slice_get}
+use Rattle.std.proofs.Common.{◌≡◌, ◌≢◌, ◌∙◌, ◌+◌, ◌⊎◌, ◌||◌, inl, inr, ℕ, Bool, true, false, cond, List, [], ◌∷◌, ◌++◌, Option, Some, None, refl, sym, ap, subst}
 use Rattle.std.specs.FinMap as finite
 use Rattle.std.specs.List.{AllByRecursion, list_any}
-use Rattle.std.specs.Option.{option_map}
-use Rattle.std.specs.Ordering.{eq_by_cmp}
 use Rattle.std.proofs.lemmas.Bool.{false≢true}
 use Rattle.std.proofs.lemmas.Cmp.{nat_list_cmp_total}
-use Rattle.outside.specs.Files.{Files, name_order, without_file}
+use Rattle.outside.specs.Files.{Files, without_file}
 use Rattle.table_store.specs.Kept.{IsKeptName}
 use Rattle.table_store.specs.Stands.{KeptIdle, Stands}
 use Rattle.table_store.specs.State.{HasTable, Segments, Texts}
-use Rattle.cursor_serve.proofs.FetchLemmas.{itself, tied}
+use Rattle.cursor_serve.proofs.FetchLemmas.{tied}
 use Rattle.cursor_serve.proofs.SoundLemmas.{all_joined, all_so}
-use Rattle.serving.specs.Closed.{AreGone, IsGone, IsReleased, has_file, is_file, without_files}
+use Rattle.serving.specs.Closed.{IsGone, IsReleased, has_file, is_file, without_files}
 use Rattle.serving.specs.Kept.{same_name}
 use Rattle.serving.specs.declared.cursor.Cursor.{Cursor}
 
@@ -84,9 +82,6 @@ or_either false b is = inr is
 or_right : (a b : Bool) → b ≡ true → (a || b) ≡ true
 or_right true b is = refl
 or_right false b is = is
-
-pub none_gone : (at : ℕ) (cursors : List Cursor) (held : Option Files) → HaveGone at cursors [] held held
-none_gone at cursors held = ([], record { each = tt; all = λ name has is. absurd (false≢true has) }, refl)
 
 pub more_gone : (at : ℕ) (cursors : List Cursor) (files : List (Option (List ℕ))) (file : Option (List ℕ)) (old mid new : Option Files) → HaveGone at cursors files old mid → IsReleased at cursors file mid new
     → HaveGone at cursors (files ++ file ∷ []) old new

@@ -1,14 +1,12 @@
 -- A list is live no longer, as the machine has it: where rows stand then, and that what is left stands for the machine.
-use Rattle.std.proofs.Common.{◌≡◌, ◌≢◌, ◌∙◌, ◌+◌, ◌<◌, ◌⊎◌, ◌||◌, inl, inr, ℕ, zero, suc, Bool, true, false, cond, nat_eq, List, [], ◌∷◌, ◌++◌, drop, filter, map, Option, Some, None, refl, sym, ap, subst, is_some, option_map, unwrap_or}
+use Rattle.std.proofs.Common.{◌≡◌, ◌≢◌, ◌∙◌, ◌+◌, ◌<◌, ◌||◌, inl, inr, ℕ, Bool, true, false, cond, nat_eq, List, [], ◌∷◌, ◌++◌, drop, filter, map, Option, Some, None, refl, sym, ap, subst, is_some, option_map, unwrap_or}
 use Rattle.std.specs.Prelude.{codes}
 use Rattle.std.specs.Fmt.{decimal}
 use Rattle.std.specs.FinMap as finite
 use Rattle.std.specs.List.{AllByRecursion, IsDistinct, list_any}
-use borrow.Author.Tests.{eqb-true, eqb-false}
+use borrow.Author.Tests.{eqb-true}
 use Rattle.std.proofs.lemmas.Bool.{false≢true}
-use Rattle.std.proofs.lemmas.Cmp.{nat_list_cmp_total}
-use Rattle.std.proofs.lemmas.List.{drop-map}
-use Rattle.outside.specs.Files.{Files, bytes_of, name_order}
+use Rattle.outside.specs.Files.{Files, bytes_of}
 use Rattle.table_schema.specs.declared.table.Table.{Table}
 use Rattle.segment_file.specs.Image.{file_of_rows}
 use Rattle.segment_file.specs.Names.{file_of}
@@ -23,11 +21,11 @@ use Rattle.cursor_serve.specs.Numbered.{IsListIn, IsNumbered, IsOneOf}
 use Rattle.cursor_serve.specs.Sound.{IsKeptWell, IsOwn, IsSound}
 use Rattle.cursor_serve.specs.ServingStands.{BothKept, HasFile, HasList, IsKeptAs, IsListOf, OpenCursor, ServingStands, first_of, is_live_by, kept_files, kept_under, segments_of, stands_as}
 use Rattle.cursor_serve.proofs.FetchLemmas.{itself, tied}
-use Rattle.cursor_serve.proofs.SoundLemmas.{all_both, all_drop, all_so, awaited_by, same_number}
+use Rattle.cursor_serve.proofs.SoundLemmas.{all_both, all_drop, awaited_by, same_number}
 use Rattle.serving.specs.Aside.{kept_if, stands_aside}
-use Rattle.serving.specs.Closed.{has_file, is_file}
+use Rattle.serving.specs.Closed.{has_file}
 use Rattle.serving.specs.Kept.{same_name}
-use Rattle.serving.proofs.CloseLemmas.{IsKeptOf, all_in, differ, file_is, file_name, file_of_number, has_mapped, kept_all, kept_among, mapped_has, one_number, passed_any}
+use Rattle.serving.proofs.CloseLemmas.{IsKeptOf, all_in, differ, file_name, file_of_number, has_mapped, kept_all, kept_among, mapped_has, one_number, passed_any}
 use Rattle.serving.proofs.GoneLemmas.{any_joined}
 
 -- ---- names

@@ -15,7 +15,6 @@ pub mod CloseLemmas
 pub mod GoneLemmas
 mod ClosedLemmas
 mod CallLemmas
-mod FaultLemmas
 mod ReadLemmas
 pub mod LeavingLemmas
 mod AsideLemmas

@@ -1,6 +1,5 @@
 -- What a step or a fetch reads, from what the answering of its segments reads.
-use Rattle.std.proofs.Common.{◌≡◌, ◌∙◌, ◌<◌, ◌≤◌, ◌+◌, ◌-◌, ◌++◌, ℕ, zero, suc, List, [], true, false, drop, get_or, length, take, Option, Some, None, IfSome, Result, Ok, Err, refl, sym, ap, subst, arith, slice_get}
-use Rattle.std.specs.List.{AllZip}
+use Rattle.std.proofs.Common.{◌≡◌, ◌∙◌, ◌<◌, ◌-◌, ℕ, zero, suc, List, [], true, false, drop, get_or, length, take, Option, Some, None, Result, Ok, Err, refl, sym, ap, subst, arith, slice_get}
 use Rattle.std.proofs.lemmas.List.{drop_all}
 use Rattle.outside.specs.Files.{Files}
 use Rattle.outside.specs.Reads.{Entry}
@@ -8,10 +7,9 @@ use Rattle.outside.specs.Seen.{Seen}
 use Rattle.values.specs.declared.value.Value.{Value}
 use Rattle.table_schema.specs.declared.query.BoundQuery.{BoundQuery}
 use Rattle.table_schema.specs.declared.table.Table.{Table}
-use Rattle.segment_head.specs.Stored.{HasImage, segment_at}
 use Rattle.segment_head.specs.declared.stored.Stored.{Stored}
 use Rattle.segment_reads.specs.Logs.{IsFileOf}
-use Rattle.segment_reads.specs.Reads.{AreApart, LogsEach, ReadsPlanned}
+use Rattle.segment_reads.specs.Reads.{LogsEach, ReadsPlanned}
 use Rattle.segment_reads.proofs.GrownLemmas.{each_as}
 use Rattle.segment_reads.proofs.LogLemmas.{logs_none}
 use Rattle.segment_reads.proofs.SpanLemmas.{planned_less}
@@ -73,10 +71,6 @@ pub none_next : (own : Cursor) (to : ℕ) → length own.segments - own.answered
 none_next own to none =
     none_in (take (to - own.answered) (drop own.answered own.segments)) (take (to - own.answered) (drop own.answered own.files.items))
     (take_none (to - own.answered) (drop own.answered own.segments) (drop_all own.answered own.segments (omega (arith, none))))
-
--- a name has no cursor, or one at a place
-pub place_not : {X : Type 0} (ds : List Cursor) (name : List ℕ) (at : ℕ) → place_under name ds ≡ Some at → place_under name ds ≡ None → X
-place_not ds name at place none = let both : Some at ≡ None = sym place ∙ none in absurd cc
 
 -- the cursor of a name is the one that was found
 pub own_is : (ds : List Cursor) (name : List ℕ) (at : ℕ) (own : Cursor) (other : ℕ) (it : Cursor) → place_under name ds ≡ Some at → get_or ds at own ≡ own → place_under name ds ≡ Some other → slice_get ds other ≡ Some it → own ≡ it

@@ -2,9 +2,8 @@
 
 ghost use Rattle.std.specs.Prelude.{◌≡◌, ◌<◌, ◌≤◌, Err, IfOk, IsErrOf, MatchOption};
 ghost use Rattle.std.specs.Prelude.{OnErr, OnOk};
-ghost use Rattle.std.specs.FinMap as finite;
 ghost use Rattle.outside.specs.Seen.{OnlyReads, seen};
-ghost use Rattle.group_table.specs.Kept.{groups_in};
+ghost use Rattle.group_table.specs.Kept.{FillsUp};
 ghost use Rattle.group_table.specs.Pooled.{IsTableIn, StaysIn, in_pool};
 ghost use Rattle.star_walk.specs.Images.{read_of};
 ghost use Rattle.star_reader.specs.declared.fault.AnswerFault.TheVariants.{BadDocs, ReadFault};
@@ -37,10 +36,9 @@ pub(crate) fn answer_tree<S: Shelf>(
     ensures count { IfOk result (λ n. n ≡ read_of (picks_of tree.now task.now)) }
     ensures ok { OnOk result (Answers tree.now task.now asked.now rows (S.held shelf.old)
         (in_pool groups.old pool.old) (in_pool groups.new pool.new)) }
-    ensures full { result ≡ Err TooManyGroups
-        → IsOverfull tree.now task.now asked.now (S.held shelf.old) (in_pool groups.old pool.old) }
-    ensures filled { result ≡ Err TooManyGroups
-        → finite.len (groups_in (in_pool groups.new pool.new)) ≡ groups.old.most }
+    ensures full { result ≡ Err TooManyGroups → FillsUp
+        (IsOverfull tree.now task.now asked.now (S.held shelf.old) (in_pool groups.old pool.old))
+        groups.old.most (in_pool groups.new pool.new) }
     ensures bad { IsErrOf result BadDocs
         → IsBad tree.now task.now asked.now rows (S.held shelf.old) }
     ensures only_reads { OnlyReads (IsErrOf result ReadFault)

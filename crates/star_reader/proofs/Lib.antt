@@ -5,3 +5,4 @@ pub mod FaultSteps
 pub mod ReadSteps
 pub mod TestSteps
 pub mod PartSteps
+pub mod KeySteps

@@ -14,6 +14,6 @@ mod tree_part;
 
 pub use asked::{Asked, GroupColumn};
 pub use fault::AnswerFault;
-pub use key::key_at;
+pub use key::{is_key, key_at};
 pub use picked::take_picks;
 pub use tree_part::TreePart;

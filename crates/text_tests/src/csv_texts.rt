@@ -28,9 +28,10 @@ fn show_row(row: &Row, out: &Text) {
     out.add("\n");
 }
 
-fn show_rows(rows: &Rows, out: &Text) {
-    for row in rows.as_slice() {
-        show_row(row, out);
+// Adds rows, from the one of this place on.
+fn show_rows(rows: &Rows, from: usize, out: &Text) {
+    for at in from..rows.len() {
+        show_row(&rows.as_slice()[at], out);
     }
 }
 
@@ -60,13 +61,13 @@ pub fn rows_of_numbers(alloc: Global, text: &[u8], out: &Text) {
     }
     let table = read_number_rows(alloc, text);
     match &table {
-        Ok(table) => show_rows(&table.1, out),
+        Ok(table) => show_rows(&table.1, 0, out),
         Err(fault) => show_csv_fault(*fault, out),
     }
     drop(table);
 }
 
-fn rows_over(alloc: Global, schema: &Schema, text: &[u8], out: &Text)
+fn rows_over(alloc: Global, schema: &Schema, text: &[u8], from: usize, out: &Text)
     requires { IsValidSchema schema.now }
 {
     if text.len() as u64 > CSV_LIMIT {
@@ -76,16 +77,26 @@ fn rows_over(alloc: Global, schema: &Schema, text: &[u8], out: &Text)
     defaults_law();
     let rows = read_rows(alloc, schema, text);
     match &rows {
-        Ok(rows) => show_rows(rows, out),
+        Ok(rows) => show_rows(rows, from, out),
         Err(fault) => show_csv_fault(*fault, out),
     }
     drop(rows);
 }
 
-/// Adds the rows of a text over the fields of a schema.
-pub fn rows_of_fields(alloc: Global, schema: &str, text: &[u8], out: &Text) {
+// Adds the rows of a text over the fields of a schema, from the one of this place on.
+fn rows_from(alloc: Global, schema: &str, text: &[u8], from: usize, out: &Text) {
     match read_schema(alloc, schema.as_bytes()) {
-        Ok(schema) => rows_over(alloc, &schema, text, out),
+        Ok(schema) => rows_over(alloc, &schema, text, from, out),
         Err(fault) => show_fault(&fault, out),
     }
+}
+
+/// Adds the rows of a text over the fields of a schema.
+pub fn rows_of_fields(alloc: Global, schema: &str, text: &[u8], out: &Text) {
+    rows_from(alloc, schema, text, 0, out);
+}
+
+/// Adds the rows of a text over the fields `c`, `d` and `n`, from the one of this place on.
+pub fn last_rows(alloc: Global, text: &[u8], from: usize, out: &Text) {
+    rows_from(alloc, FIELDS, text, from, out);
 }

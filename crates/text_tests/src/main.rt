@@ -6,6 +6,7 @@ mod bindings;
 mod cases;
 mod command_cases;
 mod counting;
+mod csv_ends;
 mod csv_texts;
 mod devices;
 mod escapes;

@@ -1,6 +1,7 @@
 //! What the cases of a file are about.
 
 use crate::bindings::{TABLE_K, TABLE_V, bound_query, conjuncts_of};
+use crate::csv_ends::Reading;
 use crate::csv_texts::{FIELDS, VISITS, rows_of_fields, rows_of_numbers};
 use crate::queries::{first_word, long_outcome, outcome, outcome_of_beginnings};
 use crate::schemas::schema_outcome;
@@ -24,6 +25,9 @@ pub enum Subject {
     CsvNumbers,
     CsvFields,
     CsvVisits,
+    RowEnds,
+    NumberEnds,
+    ColumnEnds,
 }
 
 const NAMES: &[(&str, Subject)] = &[
@@ -40,6 +44,9 @@ const NAMES: &[(&str, Subject)] = &[
     ("csv_numbers", Subject::CsvNumbers),
     ("csv_fields", Subject::CsvFields),
     ("csv_visits", Subject::CsvVisits),
+    ("row_ends", Subject::RowEnds),
+    ("number_ends", Subject::NumberEnds),
+    ("column_ends", Subject::ColumnEnds),
 ];
 
 // Adds a whole number, or why it is none.
@@ -72,6 +79,9 @@ impl Subject {
             Subject::CsvNumbers => rows_of_numbers(alloc, text, out),
             Subject::CsvFields => rows_of_fields(alloc, FIELDS, text, out),
             Subject::CsvVisits => rows_of_fields(alloc, VISITS, text, out),
+            Subject::RowEnds => Reading::Rows.outcome(alloc, text, out),
+            Subject::NumberEnds => Reading::AllColumns.outcome(alloc, text, out),
+            Subject::ColumnEnds => Reading::OneColumn.outcome(alloc, text, out),
             _ => match str::from_utf8(text) {
                 Ok(text) => self.outcome_of_query(alloc, text, out),
                 Err(_) => out.add("not UTF-8"),

@@ -7,8 +7,22 @@ use Rattle.values.specs.Columns.{row_of}
 use Rattle.coded_columns.specs.declared.key_states.KeyStates.{KeyStates}
 use Rattle.coded_columns.specs.Coded.{table_of}
 use Rattle.coded_columns.specs.Keyed.{AllAdd, HoldAggs}
+use Rattle.coded_columns.proofs.AscendSteps.{ascend-part}
 use Rattle.coded_columns.proofs.KeyedSteps.{aggs-more, takes-more}
 use Rattle.coded_columns.proofs.keyed_rows.states_of_slots.Goals as goal
+
+pub invariant_of-part : goal.invariant_of-part
+invariant_of-part c =
+    let from : ℕ = c.loop-from.from in
+    let places : List ℕ = c.args.placed.places.now in
+    let count : ℕ = c.args.placed.segment.now.count in
+    let n : ℕ = c.min-to.result - from in
+    let within : from + n ≤ length places = omega (arith, c.min-to.ensures, c.loop-from-test.true, c.requires.same) in
+    record {
+      within = All-take (λ p. p < count) n (drop from places) (All-drop (λ p. p < count) from places c.args.placed.within);
+      few = omega (arith, length-take-le n (drop from places) (omega (arith, length-drop from places, within)), within, c.args.placed.few);
+      ascend = ascend-part places from n within c.args.placed.ascend;
+    }
 
 pub add_all-requires-clause-takes : goal.add_all-requires-clause-takes
 add_all-requires-clause-takes c =

@@ -5,10 +5,11 @@ use Rattle.scan_engine.specs.Places.{rows_at}
 use Rattle.coded_columns.specs.Coded.{table_of}
 use Rattle.coded_columns.specs.Keyed.{AllAdd, HoldsPacked, SetsFirst, TakesRows}
 use Rattle.coded_columns.specs.Keys.{key_at}
+use Rattle.coded_columns.specs.Packing.{Ascend}
 use Rattle.coded_columns.proofs.KeyedSteps.{packed-more, packed-take}
 use Rattle.std.specs.Prelude.{get_or}
 use Rattle.coded_scan.specs.RowFilters.{all_let, passing}
-use Rattle.coded_scan.proofs.AddSteps.{blocks-enough, passing-below, passing-few}
+use Rattle.coded_scan.proofs.AddSteps.{blocks-enough, passing-ascend, passing-below, passing-few}
 use Rattle.coded_scan.proofs.PlaceSteps.{front_kept}
 use Rattle.coded_scan.proofs.KeyedMerges.{passed-more}
 use Rattle.coded_scan.proofs.keyed_scan.add_blocks.Goals as goal
@@ -32,6 +33,7 @@ invariant_of-placed c =
     record {
       within = subst (AreBelow segment.count) (sym is) (passing-below holds block.from block.length segment.count (omega (arith, c.block_from-block.ensures.within, c.block_from-block.ensures.from)));
       few = omega (arith, ap length is, passing-few holds block.from block.length, c.block_from-block.ensures.within, c.block_from-block.ensures.from);
+      ascend = subst Ascend (sym is) (passing-ascend holds block.from block.length);
     }
 
 pub add-requires : goal.add-requires

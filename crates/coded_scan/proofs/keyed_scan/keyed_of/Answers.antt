@@ -4,6 +4,9 @@ use Rattle.table_schema.specs.declared.query.Agg.{Agg}
 use Rattle.value_ids.specs.Coding.{AreBelow}
 use Rattle.coded_columns.specs.Keyed.{HoldsRows}
 use Rattle.coded_scan.specs.Passed.{passed}
+use Rattle.coded_columns.specs.Packing.{Ascend}
+use Rattle.coded_scan.specs.RowFilters.{all_let}
+use Rattle.coded_scan.proofs.AddSteps.{passing-ascend}
 use Rattle.coded_scan.proofs.KeyedMerges.{passed-below, passed-few}
 use Rattle.coded_scan.proofs.keyed_scan.keyed_of.Goals as goal
 
@@ -14,6 +17,7 @@ invariant_of-placed c =
     record {
       within = subst (AreBelow rows.segment.now.count) (sym is) (passed-below rows);
       few = omega (arith, ap length is, passed-few rows);
+      ascend = subst Ascend (sym is) (passing-ascend (λ at. all_let at rows.row_filters.now) 0 rows.segment.now.count);
     }
 
 pub returns-in_ok-places-in-None : goal.returns-in_ok-places-in-None

@@ -8,7 +8,8 @@ use Rattle.values.specs.Columns.{row_of}
 use Rattle.group_table.specs.Groups.{key_of, states_of}
 use Rattle.group_table.specs.Kept.{HaveValues, KeptGroups, groups_in}
 use Rattle.std.specs.FinMap as finite
-use Rattle.coded_columns.specs.Keyed.{size_in}
+use Rattle.coded_columns.specs.Keyed.{IsKept, size_in}
+use Rattle.coded_columns.specs.Keys.{AreIdsAt}
 use Rattle.scan_engine.specs.Places.{IsRun}
 use Rattle.scan_engine.specs.Scanned.{AddsRows}
 use Rattle.scan_engine.proofs.AddLemmas.{adds_nothing, merged_within}
@@ -21,18 +22,38 @@ use Rattle.coded_scan.proofs.KeyedMerges.{key-none, key-run, passed-few}
 use Rattle.group_table.specs.Pooled.{in_pool}
 use Rattle.coded_scan.proofs.merging.merge_key.Goals as goal
 
-pub key_at-requires : goal.key_at-requires
-key_at-requires c =
-    let q = c.args.query.now in
-    let rows = c.args.rows in
-    let segment = rows.segment.now in
-    let places : List ℕ = passed rows in
+pub fill_ids-requires : goal.fill_ids-requires
+fill_ids-requires c =
+    let segment = c.args.rows.segment.now in
     let firsts : List ℕ = c.args.keyed.now.firsts.items in
-    let owns = c.args.keyed.now.aggs.items in
     let k : ℕ = c.args.key in
     let first : c.index-first.result.now ≡ get_or firsts k 0 = c.index-first.ensures ∙ get_or_default firsts k c.index-first.result.now 0 c.requires.key in
-    let within = (c.requires.may.holds.firsts k c.requires.key).within (omega (arith, first, c.if-first-eq0.false)) in
-    omega (arith, within, first)
+    let some : 0 < get_or firsts k 0 = omega (arith, first, c.if-first-eq0.false) in
+    let holds = c.requires.may.holds in
+    subst (λ (gs : List ℕ). IsKept segment gs c.args.keyed.now k) (sym c.as_slice-columns.ensures)
+    (record {
+      key = c.requires.key;
+      some = some;
+      within = (holds.firsts k c.requires.key).within some;
+      packed = holds.packed;
+    })
+
+pub key_by_ids-requires-clause-same : goal.key_by_ids-requires-clause-same
+key_by_ids-requires-clause-same c = ap length c.deref.ensures.value ∙ c.in_ok-fill_ids.ensures.count
+
+pub key_by_ids-requires-clause-row : goal.key_by_ids-requires-clause-row
+key_by_ids-requires-clause-row c =
+    let segment = c.args.rows.segment.now in
+    let firsts : List ℕ = c.args.keyed.now.firsts.items in
+    let k : ℕ = c.args.key in
+    let row : ℕ = get_or firsts k 0 - 1 in
+    let first : c.index-first.result.now ≡ get_or firsts k 0 = c.index-first.ensures ∙ get_or_default firsts k c.index-first.result.now 0 c.requires.key in
+    let some : 0 < get_or firsts k 0 = omega (arith, first, c.if-first-eq0.false) in
+    record {
+      row = row;
+      within = (c.requires.may.holds.firsts k c.requires.key).within some;
+      are = subst (λ (l : List ℕ). AreIdsAt segment c.as_slice-columns.result.now row l) (sym c.deref.ensures.value) c.in_ok-fill_ids.ensures;
+    }
 
 pub fill_states-requires : goal.fill_states-requires
 fill_states-requires c =
@@ -63,6 +84,26 @@ merge_row-requires-clause-kinds c =
     let row_is : c.fill_states.new.row ≡ states_of q.aggs run = c.in_ok-fill_states.ensures ∙ row-states (length firsts) keys (passed_rows rows) q.aggs owns k holds.states c.requires.key in
     ap kinds_of row_is ∙ kinds_states q.aggs run ∙ sym c.requires.table.kinds
 
+pub merge_row-requires-clause-key : goal.merge_row-requires-clause-key
+merge_row-requires-clause-key c =
+    let q = c.args.query.now in
+    let rows = c.args.rows in
+    let segment = rows.segment.now in
+    let places : List ℕ = passed rows in
+    let firsts : List ℕ = c.args.keyed.now.firsts.items in
+    let owns = c.args.keyed.now.aggs.items in
+    let k : ℕ = c.args.key in
+    let first : c.index-first.result.now ≡ get_or firsts k 0 = c.index-first.ensures ∙ get_or_default firsts k c.index-first.result.now 0 c.requires.key in
+    let keys : List ℕ = c.requires.may.keys in
+    let holds = c.requires.may.holds in
+    let run : List (List Value) = run_of rows keys k in
+    let some : 0 < get_or firsts k 0 = omega (arith, first, c.if-first-eq0.false) in
+    let values : c.in_ok-own.own ≡ key_of q.groups (row_of (table_of segment).columns (get_or firsts k 0 - 1)) =
+    c.in_ok-own.ensures (get_or firsts k 0 - 1) ((holds.firsts k c.requires.key).within some) (subst (λ (l : List ℕ). AreIdsAt segment c.as_slice-columns.result.now (get_or firsts k 0 - 1) l) (sym c.deref.ensures.value) c.in_ok-fill_ids.ensures)
+    ∙ ap (λ (gs : List ℕ). key_of gs (row_of (table_of segment).columns (get_or firsts k 0 - 1))) c.as_slice-columns.ensures in
+    let r : IsRun q.groups c.in_ok-own.own run = key-run segment q.groups q.aggs keys places c.args.keyed.now holds k c.in_ok-own.own c.requires.key some values in
+    r.width ∙ sym c.requires.table.columns
+
 pub merge_row-requires-clause-values : goal.merge_row-requires-clause-values
 merge_row-requires-clause-values c =
     let q = c.args.query.now in
@@ -79,8 +120,8 @@ merge_row-requires-clause-values c =
     let row_is : c.fill_states.new.row ≡ states_of q.aggs run = c.in_ok-fill_states.ensures ∙ row-states (length firsts) keys (passed_rows rows) q.aggs owns k holds.states c.requires.key in
     let some : 0 < get_or firsts k 0 = omega (arith, first, c.if-first-eq0.false) in
     let values : c.in_ok-own.own ≡ key_of q.groups (row_of (table_of segment).columns (get_or firsts k 0 - 1)) =
-    c.in_ok-own.ensures ∙ ap (λ (gs : List ℕ). key_of gs (row_of (table_of segment).columns (c.index-first.result.now - 1))) c.as_slice-columns.ensures
-    ∙ ap (λ (f : ℕ). key_of q.groups (row_of (table_of segment).columns (f - 1))) first in
+    c.in_ok-own.ensures (get_or firsts k 0 - 1) ((holds.firsts k c.requires.key).within some) (subst (λ (l : List ℕ). AreIdsAt segment c.as_slice-columns.result.now (get_or firsts k 0 - 1) l) (sym c.deref.ensures.value) c.in_ok-fill_ids.ensures)
+    ∙ ap (λ (gs : List ℕ). key_of gs (row_of (table_of segment).columns (get_or firsts k 0 - 1))) c.as_slice-columns.ensures in
     let r : IsRun q.groups c.in_ok-own.own run = key-run segment q.groups q.aggs keys places c.args.keyed.now holds k c.in_ok-own.own c.requires.key some values in
     λ any. subst (λ (s : List AggState). HaveValues s) (sym row_is) (states_have q.aggs run r.some)
 
@@ -133,8 +174,8 @@ returns-in-Err-clause-adds c = λ keys holds.
     let run : List (List Value) = run_of rows keys k in
     let some : 0 < get_or firsts k 0 = omega (arith, first, c.if-first-eq0.false) in
     let values : c.in_ok-own.own ≡ key_of q.groups (row_of (table_of segment).columns (get_or firsts k 0 - 1)) =
-    c.in_ok-own.ensures ∙ ap (λ (gs : List ℕ). key_of gs (row_of (table_of segment).columns (c.index-first.result.now - 1))) c.as_slice-columns.ensures
-    ∙ ap (λ (f : ℕ). key_of q.groups (row_of (table_of segment).columns (f - 1))) first in
+    c.in_ok-own.ensures (get_or firsts k 0 - 1) ((holds.firsts k c.requires.key).within some) (subst (λ (l : List ℕ). AreIdsAt segment c.as_slice-columns.result.now (get_or firsts k 0 - 1) l) (sym c.deref.ensures.value) c.in_ok-fill_ids.ensures)
+    ∙ ap (λ (gs : List ℕ). key_of gs (row_of (table_of segment).columns (get_or firsts k 0 - 1))) c.as_slice-columns.ensures in
     let r : IsRun q.groups c.in_ok-own.own run = key-run segment q.groups q.aggs keys places c.args.keyed.now holds k c.in_ok-own.own c.requires.key some values in
     record {
       ok = tt;
@@ -162,8 +203,8 @@ returns-clause-adds c = λ keys holds.
     let fits : RowFits c.fill_states.new.row (length run) = subst (λ (s : List AggState). RowFits s (length run)) (sym c.in_ok-fill_states.ensures) (row-fits (length firsts) keys (passed_rows rows) q.aggs owns k holds.states c.requires.key) in
     let some : 0 < get_or firsts k 0 = omega (arith, first, c.if-first-eq0.false) in
     let values : c.in_ok-own.own ≡ key_of q.groups (row_of (table_of segment).columns (get_or firsts k 0 - 1)) =
-    c.in_ok-own.ensures ∙ ap (λ (gs : List ℕ). key_of gs (row_of (table_of segment).columns (c.index-first.result.now - 1))) c.as_slice-columns.ensures
-    ∙ ap (λ (f : ℕ). key_of q.groups (row_of (table_of segment).columns (f - 1))) first in
+    c.in_ok-own.ensures (get_or firsts k 0 - 1) ((holds.firsts k c.requires.key).within some) (subst (λ (l : List ℕ). AreIdsAt segment c.as_slice-columns.result.now (get_or firsts k 0 - 1) l) (sym c.deref.ensures.value) c.in_ok-fill_ids.ensures)
+    ∙ ap (λ (gs : List ℕ). key_of gs (row_of (table_of segment).columns (get_or firsts k 0 - 1))) c.as_slice-columns.ensures in
     let r : IsRun q.groups c.in_ok-own.own run = key-run segment q.groups q.aggs keys places c.args.keyed.now holds k c.in_ok-own.own c.requires.key some values in
     record {
       ok = adds_run q (length run) run c.in_ok-own.own c.fill_states.new.row (in_pool c.args.table.now c.args.pool.now) (in_pool c.merge_row.new.self c.merge_row.new.pool) c.requires.table r row_is fits c.in_default.ensures.ok;

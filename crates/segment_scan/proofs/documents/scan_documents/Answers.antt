@@ -26,10 +26,10 @@ pub pick_columns-requires : goal.pick_columns-requires
 pick_columns-requires g c = record {
   readable = c.requires.readable;
   runs = record {
-    few_rows = c.requires.few_rows;
+    few_rows = c.requires.docs.few_rows;
     apart = c.runs-runs.ensures.apart;
     within =
-        lasts_below 0 c.runs-runs.result.now c.args.answered.now.head.now.rows c.runs-runs.ensures.apart (subst (All (λ doc. doc < c.args.answered.now.head.now.rows)) (sym c.runs-runs.ensures.docs) c.requires.within);
+        lasts_below 0 c.runs-runs.result.now c.args.answered.now.head.now.rows c.runs-runs.ensures.apart (subst (All (λ doc. doc < c.args.answered.now.head.now.rows)) (sym c.runs-runs.ensures.docs) c.requires.docs.within);
   };
 }
 
@@ -55,15 +55,15 @@ invariant_of-segment g c =
     (c.in_ok-columns.ensures.each column (within column lt))) in
     let picked : (column : ℕ) → column < length named → IsPicked held head column docs (get_or named column false) (get_or ids column None) = λ column lt.
     subst (λ (l : List ℕ). IsPicked held head column l (get_or named column false) (get_or ids column None)) c.runs-runs.ensures.docs (c.in-Ok.ensures.ids column lt) in
-    let at_most : length docs ≤ head.rows = docs_few docs head.rows c.runs-runs.ensures.ascends c.requires.within in
-    record { coded = docs-coded held head named docs ids c.len-2.result c.as_slice.result.now c.len-2.ensures (omega (arith, at_most, c.requires.few_rows)) lengths picked of }
+    let at_most : length docs ≤ head.rows = docs_few docs head.rows c.runs-runs.ensures.ascends c.requires.docs.within in
+    record { coded = docs-coded held head named docs ids c.len-2.result c.as_slice.result.now c.len-2.ensures (omega (arith, at_most, c.requires.docs.few_rows)) lengths picked of }
 
 pub add_coded-requires-clause-fits : goal.add_coded-requires-clause-fits
 add_coded-requires-clause-fits g c =
     at_most_more (groups_in (in_pool c.args.groups.now c.args.pool.now)) (most_values - length c.args.docs.now) (most_values - c.len-2.result) (omega (arith, c.len-2.ensures)) c.requires.room.fits
 
 pub returns-in-Ok-add_coded-clause-count : goal.returns-in-Ok-add_coded-clause-count
-returns-in-Ok-add_coded-clause-count g c = docs_few c.args.docs.now c.args.answered.now.head.now.rows c.runs-runs.ensures.ascends c.requires.within
+returns-in-Ok-add_coded-clause-count g c = docs_few c.args.docs.now c.args.answered.now.head.now.rows c.runs-runs.ensures.ascends c.requires.docs.within
 
 pub returns-in-Ok-add_coded-clause-ok : goal.returns-in-Ok-add_coded-clause-ok
 returns-in-Ok-add_coded-clause-ok g c =
@@ -82,13 +82,13 @@ returns-in-Ok-add_coded-clause-ok g c =
     (c.in_ok-columns.ensures.each column (within column lt))) in
     let picked : (column : ℕ) → column < length named → IsPicked held head column docs (get_or named column false) (get_or ids column None) = λ column lt.
     subst (λ (l : List ℕ). IsPicked held head column l (get_or named column false) (get_or ids column None)) c.runs-runs.ensures.docs (c.in-Ok.ensures.ids column lt) in
-    let at_most : length docs ≤ head.rows = docs_few docs head.rows c.runs-runs.ensures.ascends c.requires.within in
-    let segment : SegmentColumns = record { columns = c.as_slice.result; count = c.len-2.result; coded = docs-coded held head named docs ids c.len-2.result c.as_slice.result.now c.len-2.ensures (omega (arith, at_most, c.requires.few_rows)) lengths picked of } in
+    let at_most : length docs ≤ head.rows = docs_few docs head.rows c.runs-runs.ensures.ascends c.requires.docs.within in
+    let segment : SegmentColumns = record { columns = c.as_slice.result; count = c.len-2.result; coded = docs-coded held head named docs ids c.len-2.result c.as_slice.result.now c.len-2.ensures (omega (arith, at_most, c.requires.docs.few_rows)) lengths picked of } in
     let rows = selected (rest_of query choices) (rows_of (table_of segment)) in
     record {
       rows = rows;
       adds = adds_as_more query c.len-2.result (length docs) rows (in_pool c.args.groups.now c.args.pool.now) (in_pool c.add_coded.new.table c.add_coded.new.pool) (omega (arith, c.len-2.ensures)) c.in-Ok-add_coded.ensures.adds.ok;
-      told = docs-read held head named docs ids segment c.len-2.ensures (omega (arith, at_most, c.requires.few_rows)) c.requires.within lengths picked of query choices;
+      told = docs-read held head named docs ids segment c.len-2.ensures (omega (arith, at_most, c.requires.docs.few_rows)) c.requires.docs.within lengths picked of query choices;
     }
 
 pub returns-in-Err-TooManyGroups-clause-full : goal.returns-in-Err-TooManyGroups-clause-full
@@ -108,11 +108,15 @@ returns-in-Err-TooManyGroups-clause-full g c = λ bad.
     (c.in_ok-columns.ensures.each column (within column lt))) in
     let picked : (column : ℕ) → column < length named → IsPicked held head column docs (get_or named column false) (get_or ids column None) = λ column lt.
     subst (λ (l : List ℕ). IsPicked held head column l (get_or named column false) (get_or ids column None)) c.runs-runs.ensures.docs (c.in-Ok.ensures.ids column lt) in
-    let at_most : length docs ≤ head.rows = docs_few docs head.rows c.runs-runs.ensures.ascends c.requires.within in
-    let segment : SegmentColumns = record { columns = c.as_slice.result; count = c.len-2.result; coded = docs-coded held head named docs ids c.len-2.result c.as_slice.result.now c.len-2.ensures (omega (arith, at_most, c.requires.few_rows)) lengths picked of } in
-    docs-overfull held query choices head named docs (selected (rest_of query choices) (rows_of (table_of segment))) (in_pool c.args.groups.now c.args.pool.now)
-    (docs-read held head named docs ids segment c.len-2.ensures (omega (arith, at_most, c.requires.few_rows)) c.requires.within lengths picked of query choices)
-    (c.add_coded.ensures.adds.full (c.in-Err-TooManyGroups.is ∙ ap Err c.in-Err-TooManyGroups.field-0-is))
+    let at_most : length docs ≤ head.rows = docs_few docs head.rows c.runs-runs.ensures.ascends c.requires.docs.within in
+    let segment : SegmentColumns = record { columns = c.as_slice.result; count = c.len-2.result; coded = docs-coded held head named docs ids c.len-2.result c.as_slice.result.now c.len-2.ensures (omega (arith, at_most, c.requires.docs.few_rows)) lengths picked of } in
+    let full = c.in-Err-TooManyGroups.is ∙ ap Err c.in-Err-TooManyGroups.field-0-is in
+    record {
+      over = docs-overfull held query choices head named docs (selected (rest_of query choices) (rows_of (table_of segment))) (in_pool c.args.groups.now c.args.pool.now)
+          (docs-read held head named docs ids segment c.len-2.ensures (omega (arith, at_most, c.requires.docs.few_rows)) c.requires.docs.within lengths picked of query choices)
+          (c.add_coded.ensures.adds.full full);
+      filled = c.add_coded.ensures.adds.filled full;
+    }
 
 pub returns-in-Err-clause-reads : goal.returns-in-Err-clause-reads
 returns-in-Err-clause-reads g c = record {

@@ -132,9 +132,13 @@ returns-in-Err-clause-full g c = λ full.
     let sure : List ℕ = c.in_ok-check.sure in
     let parts : AreParts docs unsure check sure = record { checks = c.in_ok-check.ensures.both; sures = c.in_ok-check.ensures.alone } in
     let f : PartsFit head.rows docs check sure = parts_fit docs unsure check sure head.rows c.requires.leaves.ascend c.requires.leaves.left.within parts in
-    check_full c.image_law.ensures c.index_law.ensures query table head c.requires.scans.valid c.requires.scans.of_table c.requires.scans.loaded docs held unsure check sure c.requires.leaves.left c.requires.leaves.unsure parts (in_pool c.args.groups.now c.args.pool.now)
-    (subst (λ cs. IfSome held (λ files. IsOverfull query (selected_docs query cs files head (names_in (rest_of query cs) table) check) (in_pool c.args.groups.now c.args.pool.now))) c.requires.planned
-    (c.in-Err.ensures.full (same_err ℕ (Unit {0}) c.in-Err.fault TooManyGroups full)))
+    let own = same_err ℕ (Unit {0}) c.in-Err.fault TooManyGroups full in
+    record {
+      over = check_full c.image_law.ensures c.index_law.ensures query table head c.requires.scans.valid c.requires.scans.of_table c.requires.scans.loaded docs held unsure check sure c.requires.leaves.left c.requires.leaves.unsure parts (in_pool c.args.groups.now c.args.pool.now)
+          (subst (λ cs. IfSome held (λ files. IsOverfull query (selected_docs query cs files head (names_in (rest_of query cs) table) check) (in_pool c.args.groups.now c.args.pool.now))) c.requires.leaves.planned
+          (c.in-Err.ensures.full own));
+      filled = c.in-Err.ensures.filled own;
+    }
 
 pub returns-in-Err-clause-reads : goal.returns-in-Err-clause-reads
 returns-in-Err-clause-reads g c = record {
@@ -157,7 +161,7 @@ returns-in-Err-clause-reads g c = record {
         count = f.count;
         check_within = f.check_within;
         sure_within = f.sure_within;
-        some = inl (subst (λ cs. LogsDocsPartly head (names_in (rest_of query cs) table) check (g.S.Shelf.log c.args.shelf.now) (g.S.Shelf.log c.scan_part.new.shelf)) c.requires.planned c.in-Err.ensures.reads.log_of_fault);
+        some = inl (subst (λ cs. LogsDocsPartly head (names_in (rest_of query cs) table) check (g.S.Shelf.log c.args.shelf.now) (g.S.Shelf.log c.scan_part.new.shelf)) c.requires.leaves.planned c.in-Err.ensures.reads.log_of_fault);
       };
 }
 
@@ -216,10 +220,10 @@ returns-in-Ok-scan_part-clause-ok g c =
     let sure : List ℕ = c.in_ok-check.sure in
     let parts : AreParts docs unsure check sure = record { checks = c.in_ok-check.ensures.both; sures = c.in_ok-check.ensures.alone } in
     let f : PartsFit head.rows docs check sure = parts_fit docs unsure check sure head.rows c.requires.leaves.ascend c.requires.leaves.left.within parts in
-    let served : c.as_slice-served.result.now ≡ sure_choices (choices_for query table head) = c.as_slice-served.ensures.value ∙ c.in_ok-served.ensures ∙ ap sure_choices c.requires.planned in
+    let served : c.as_slice-served.result.now ≡ sure_choices (choices_for query table head) = c.as_slice-served.ensures.value ∙ c.in_ok-served.ensures ∙ ap sure_choices c.requires.leaves.planned in
     let same : g.S.Shelf.held c.scan_part.new.shelf ≡ held = c.in-Ok.ensures.reads.only_reads.held in
     let first : AddsDocs query (choices_for query table head) held head (names_in (rest_for query table head) table) check (in_pool c.args.groups.now c.args.pool.now) (in_pool c.scan_part.new.groups c.scan_part.new.pool) =
-    subst (λ cs. AddsDocs query cs held head (names_in (rest_of query cs) table) check (in_pool c.args.groups.now c.args.pool.now) (in_pool c.scan_part.new.groups c.scan_part.new.pool)) c.requires.planned c.in-Ok.ensures.ok in
+    subst (λ cs. AddsDocs query cs held head (names_in (rest_of query cs) table) check (in_pool c.args.groups.now c.args.pool.now) (in_pool c.scan_part.new.groups c.scan_part.new.pool)) c.requires.leaves.planned c.in-Ok.ensures.ok in
     left_image c.image_law.ensures c.index_law.ensures query table head c.requires.scans.valid c.requires.scans.of_table c.requires.scans.loaded docs held unsure check sure c.requires.leaves.left c.requires.leaves.unsure parts f.at_most f.count (in_pool c.args.groups.now c.args.pool.now) (in_pool c.scan_part.new.groups c.scan_part.new.pool) (in_pool c.scan_part-2.new.groups c.scan_part-2.new.pool) first
     (subst (λ cs. AddsDocs query cs held head (names_in (rest_of query cs) table) sure (in_pool c.scan_part.new.groups c.scan_part.new.pool) (in_pool c.scan_part-2.new.groups c.scan_part-2.new.pool)) served
     (subst (λ h. AddsDocs query c.as_slice-served.result.now h head (names_in (rest_of query c.as_slice-served.result.now) table) sure (in_pool c.scan_part.new.groups c.scan_part.new.pool) (in_pool c.scan_part-2.new.groups c.scan_part-2.new.pool)) same c.in-Ok-scan_part.ensures.ok))
@@ -238,7 +242,7 @@ returns-in-Ok-scan_part-clause-reads g c = record {
       let sure : List ℕ = c.in_ok-check.sure in
       let parts : AreParts docs unsure check sure = record { checks = c.in_ok-check.ensures.both; sures = c.in_ok-check.ensures.alone } in
       let f : PartsFit head.rows docs check sure = parts_fit docs unsure check sure head.rows c.requires.leaves.ascend c.requires.leaves.left.within parts in
-      let served : c.as_slice-served.result.now ≡ sure_choices (choices_for query table head) = c.as_slice-served.ensures.value ∙ c.in_ok-served.ensures ∙ ap sure_choices c.requires.planned in
+      let served : c.as_slice-served.result.now ≡ sure_choices (choices_for query table head) = c.as_slice-served.ensures.value ∙ c.in_ok-served.ensures ∙ ap sure_choices c.requires.leaves.planned in
       record {
         check = check;
         sure = sure;
@@ -246,7 +250,7 @@ returns-in-Ok-scan_part-clause-reads g c = record {
         check_within = f.check_within;
         sure_within = f.sure_within;
         between = g.S.Shelf.log c.scan_part.new.shelf;
-        checked = subst (λ cs. LogsDocs head (names_in (rest_of query cs) table) check (g.S.Shelf.log c.args.shelf.now) (g.S.Shelf.log c.scan_part.new.shelf)) c.requires.planned c.in-Ok.ensures.reads.log;
+        checked = subst (λ cs. LogsDocs head (names_in (rest_of query cs) table) check (g.S.Shelf.log c.args.shelf.now) (g.S.Shelf.log c.scan_part.new.shelf)) c.requires.leaves.planned c.in-Ok.ensures.reads.log;
         surely = subst (λ cs. LogsDocs head (names_in (rest_of query cs) table) sure (g.S.Shelf.log c.scan_part.new.shelf) (g.S.Shelf.log c.scan_part-2.new.shelf)) served c.in-Ok-scan_part.ensures.reads.log;
       };
   log_of_fault = tt;
@@ -264,14 +268,18 @@ returns-clause-full g c = λ full.
     let sure : List ℕ = c.in_ok-check.sure in
     let parts : AreParts docs unsure check sure = record { checks = c.in_ok-check.ensures.both; sures = c.in_ok-check.ensures.alone } in
     let f : PartsFit head.rows docs check sure = parts_fit docs unsure check sure head.rows c.requires.leaves.ascend c.requires.leaves.left.within parts in
-    let served : c.as_slice-served.result.now ≡ sure_choices (choices_for query table head) = c.as_slice-served.ensures.value ∙ c.in_ok-served.ensures ∙ ap sure_choices c.requires.planned in
+    let served : c.as_slice-served.result.now ≡ sure_choices (choices_for query table head) = c.as_slice-served.ensures.value ∙ c.in_ok-served.ensures ∙ ap sure_choices c.requires.leaves.planned in
     let same : g.S.Shelf.held c.scan_part.new.shelf ≡ held = c.in-Ok.ensures.reads.only_reads.held in
     let first : AddsDocs query (choices_for query table head) held head (names_in (rest_for query table head) table) check (in_pool c.args.groups.now c.args.pool.now) (in_pool c.scan_part.new.groups c.scan_part.new.pool) =
-    subst (λ cs. AddsDocs query cs held head (names_in (rest_of query cs) table) check (in_pool c.args.groups.now c.args.pool.now) (in_pool c.scan_part.new.groups c.scan_part.new.pool)) c.requires.planned c.in-Ok.ensures.ok in
-    sure_full c.image_law.ensures c.index_law.ensures query table head c.requires.scans.valid c.requires.scans.of_table c.requires.scans.loaded docs held unsure check sure c.requires.leaves.left c.requires.leaves.unsure parts (in_pool c.args.groups.now c.args.pool.now) (in_pool c.scan_part.new.groups c.scan_part.new.pool) first
-    (subst (λ cs. IfSome held (λ files. IsOverfull query (selected_docs query cs files head (names_in (rest_of query cs) table) sure) (in_pool c.scan_part.new.groups c.scan_part.new.pool))) served
-    (subst (λ h. IfSome h (λ files. IsOverfull query (selected_docs query c.as_slice-served.result.now files head (names_in (rest_of query c.as_slice-served.result.now) table) sure) (in_pool c.scan_part.new.groups c.scan_part.new.pool))) same
-    (c.in-Err-scan_part.ensures.full (same_err ℕ (Unit {0}) c.in-Err-scan_part.fault TooManyGroups full))))
+    subst (λ cs. AddsDocs query cs held head (names_in (rest_of query cs) table) check (in_pool c.args.groups.now c.args.pool.now) (in_pool c.scan_part.new.groups c.scan_part.new.pool)) c.requires.leaves.planned c.in-Ok.ensures.ok in
+    let own = same_err ℕ (Unit {0}) c.in-Err-scan_part.fault TooManyGroups full in
+    record {
+      over = sure_full c.image_law.ensures c.index_law.ensures query table head c.requires.scans.valid c.requires.scans.of_table c.requires.scans.loaded docs held unsure check sure c.requires.leaves.left c.requires.leaves.unsure parts (in_pool c.args.groups.now c.args.pool.now) (in_pool c.scan_part.new.groups c.scan_part.new.pool) first
+          (subst (λ cs. IfSome held (λ files. IsOverfull query (selected_docs query cs files head (names_in (rest_of query cs) table) sure) (in_pool c.scan_part.new.groups c.scan_part.new.pool))) served
+          (subst (λ h. IfSome h (λ files. IsOverfull query (selected_docs query c.as_slice-served.result.now files head (names_in (rest_of query c.as_slice-served.result.now) table) sure) (in_pool c.scan_part.new.groups c.scan_part.new.pool))) same
+          (c.in-Err-scan_part.ensures.full own)));
+      filled = c.in-Err-scan_part.ensures.filled own ∙ first.adds.most;
+    }
 
 pub returns-clause-bad : goal.returns-clause-bad
 returns-clause-bad g c = λ part bad.
@@ -285,7 +293,7 @@ returns-clause-bad g c = λ part bad.
     let sure : List ℕ = c.in_ok-check.sure in
     let parts : AreParts docs unsure check sure = record { checks = c.in_ok-check.ensures.both; sures = c.in_ok-check.ensures.alone } in
     let f : PartsFit head.rows docs check sure = parts_fit docs unsure check sure head.rows c.requires.leaves.ascend c.requires.leaves.left.within parts in
-    let served : c.as_slice-served.result.now ≡ sure_choices (choices_for query table head) = c.as_slice-served.ensures.value ∙ c.in_ok-served.ensures ∙ ap sure_choices c.requires.planned in
+    let served : c.as_slice-served.result.now ≡ sure_choices (choices_for query table head) = c.as_slice-served.ensures.value ∙ c.in_ok-served.ensures ∙ ap sure_choices c.requires.leaves.planned in
     let same : g.S.Shelf.held c.scan_part.new.shelf ≡ held = c.in-Ok.ensures.reads.only_reads.held in
     let bad_now : IsBadForward (sure_for query table head) held head part × IsNoImage table held head =
     subst (λ cs. IsBadForward (rest_of query cs) held head part × IsNoImage table held head) served
@@ -310,7 +318,7 @@ returns-clause-reads g c = record {
       let sure : List ℕ = c.in_ok-check.sure in
       let parts : AreParts docs unsure check sure = record { checks = c.in_ok-check.ensures.both; sures = c.in_ok-check.ensures.alone } in
       let f : PartsFit head.rows docs check sure = parts_fit docs unsure check sure head.rows c.requires.leaves.ascend c.requires.leaves.left.within parts in
-      let served : c.as_slice-served.result.now ≡ sure_choices (choices_for query table head) = c.as_slice-served.ensures.value ∙ c.in_ok-served.ensures ∙ ap sure_choices c.requires.planned in
+      let served : c.as_slice-served.result.now ≡ sure_choices (choices_for query table head) = c.as_slice-served.ensures.value ∙ c.in_ok-served.ensures ∙ ap sure_choices c.requires.leaves.planned in
       record {
         check = check;
         sure = sure;
@@ -319,7 +327,7 @@ returns-clause-reads g c = record {
         sure_within = f.sure_within;
         some = inr (
           g.S.Shelf.log c.scan_part.new.shelf,
-          subst (λ cs. LogsDocs head (names_in (rest_of query cs) table) check (g.S.Shelf.log c.args.shelf.now) (g.S.Shelf.log c.scan_part.new.shelf)) c.requires.planned c.in-Ok.ensures.reads.log,
+          subst (λ cs. LogsDocs head (names_in (rest_of query cs) table) check (g.S.Shelf.log c.args.shelf.now) (g.S.Shelf.log c.scan_part.new.shelf)) c.requires.leaves.planned c.in-Ok.ensures.reads.log,
           subst (λ cs. LogsDocsPartly head (names_in (rest_of query cs) table) sure (g.S.Shelf.log c.scan_part.new.shelf) (g.S.Shelf.log c.scan_part-2.new.shelf)) served c.in-Err-scan_part.ensures.reads.log_of_fault,
         );
       };

@@ -64,7 +64,10 @@ returns-clause-full g c = λ full.
     let named : List Bool = c.as_slice-named.result.now in
     let is : named ≡ names_in (rest_of query choices) table =
     marks_left query table choices named c.in_ok-named.named.items c.len.result c.len.ensures c.as_slice-named.ensures.value c.in_ok-named.ensures.count c.in_ok-named.ensures.each in
-    subst (λ (l : List Bool). IfSome (g.S.Shelf.held c.args.shelf.now) (λ files. IsOverfull query (selected_docs query choices files head l c.args.docs.now) (in_pool c.args.groups.now c.args.pool.now))) is (c.scan_documents.ensures.full full)
+    subst (λ (l : List Bool). IfSome (g.S.Shelf.held c.args.shelf.now) (λ files. IsOverfull query (selected_docs query choices files head l c.args.docs.now) (in_pool c.args.groups.now c.args.pool.now))) is (c.scan_documents.ensures.full full).over
+
+pub returns-clause-filled : goal.returns-clause-filled
+returns-clause-filled g c = λ full. (c.scan_documents.ensures.full full).filled
 
 pub returns-clause-bad : goal.returns-clause-bad
 returns-clause-bad g c = λ part bad.
@@ -100,8 +103,11 @@ returns-clause-reads g c = record {
       subst (λ (l : List Bool). OnErr c.scan_documents.result (LogsDocsPartly head l c.args.docs.now (g.S.Shelf.log c.args.shelf.now) (g.S.Shelf.log c.scan_documents.new.shelf))) is c.scan_documents.ensures.reads.log_of_fault;
 }
 
-pub scan_documents-requires-clause-few_rows : goal.scan_documents-requires-clause-few_rows
-scan_documents-requires-clause-few_rows g c = let at_most = c.requires.scans.of_table.at_most in let rows = c.requires.scans.of_table.has.rows_are in omega (arith, at_most, rows)
+pub scan_documents-requires-clause-docs : goal.scan_documents-requires-clause-docs
+scan_documents-requires-clause-docs g c =
+    let at_most = c.requires.scans.of_table.at_most in
+    let rows = c.requires.scans.of_table.has.rows_are in
+    record { few_rows = omega (arith, at_most, rows); within = c.requires.within }
 
 pub scan_documents-requires-clause-room : goal.scan_documents-requires-clause-room
 scan_documents-requires-clause-room g c = record { of_query = c.requires.scans.of_query; fits = c.requires.scans.fits }

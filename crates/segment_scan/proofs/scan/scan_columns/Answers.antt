@@ -70,9 +70,13 @@ returns-in-Err-TooManyGroups-clause-full g c = λ bad.
     (subst (λ (l : List (Option Coded)). IsCodedOf head column (get_or c.as_slice-ids.result.now column None) (get_or l column None)) (sym c.as_slice.ensures.value)
     (c.in_ok-columns.ensures.each column (within column lt))) in
     let segment : SegmentColumns = record { columns = c.as_slice.result; count = c.rows.result; coded = coded-all held head named ids c.rows.result c.as_slice.result.now c.rows.ensures c.requires.few_rows lengths c.in-Ok.ensures.ids of } in
-    overfull-read held c.args.query.now head named (selected c.args.query.now (rows_of (table_of segment))) (in_pool c.args.groups.now c.args.pool.now)
-    (rows-read held head named ids segment c.rows.ensures c.requires.few_rows lengths c.in-Ok.ensures.ids of c.args.query.now)
-    (c.add_coded.ensures.adds.full (c.in-Err-TooManyGroups.is ∙ ap Err c.in-Err-TooManyGroups.field-0-is))
+    let full = c.in-Err-TooManyGroups.is ∙ ap Err c.in-Err-TooManyGroups.field-0-is in
+    record {
+      over = overfull-read held c.args.query.now head named (selected c.args.query.now (rows_of (table_of segment))) (in_pool c.args.groups.now c.args.pool.now)
+          (rows-read held head named ids segment c.rows.ensures c.requires.few_rows lengths c.in-Ok.ensures.ids of c.args.query.now)
+          (c.add_coded.ensures.adds.full full);
+      filled = c.add_coded.ensures.adds.filled full;
+    }
 
 pub returns-in_err-columns-clause-reads : goal.returns-in_err-columns-clause-reads
 returns-in_err-columns-clause-reads g c = record {

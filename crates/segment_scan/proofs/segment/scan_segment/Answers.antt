@@ -8,7 +8,7 @@ use Rattle.table_schema.specs.declared.query.Conjunct.{Conjunct}
 use Rattle.segment_head.specs.Heads.{Seen}
 use Rattle.segment_plan.specs.declared.plans.IndexChoice.{IndexChoice}
 use Rattle.column_reader.specs.Forward.{LogsColumns, LogsSome}
-use Rattle.segment_scan.specs.Images.{AddsImage, AddsWhole, AreLeftFor, HasUnsureFor, IsBadWhole, IsWholeOverfull, LogsIndexes, LogsLeft, LogsPartsPartly, LogsScanPartly, choices_for, indexed_for}
+use Rattle.segment_scan.specs.Images.{AddsImage, AddsWhole, AreLeftFor, HasUnsureFor, IsBadWhole, IsImageOverfull, IsWholeOverfull, LogsIndexes, LogsLeft, LogsPartsPartly, LogsScanPartly, choices_for, indexed_for}
 use Rattle.segment_plan.specs.Named.{names_in}
 use Rattle.index_filter.specs.Indexes.{AreLeft, HasUnsure, IsBadAny, IsReady, Leaves, LogsAt, LogsAtPartly, OfEach}
 use Rattle.outside.specs.Series.{LogsPartOf, LogsTo}
@@ -187,10 +187,20 @@ scan_left-requires-clause-leaves g c =
     let choices : cs ≡ choices_for query table head = c.as_slice-choices.ensures ∙ c.requires.planned in
     let conjuncts : c.as_slice-conjuncts.result.now ≡ query.conjuncts = c.as_slice-conjuncts.ensures in
     record {
+      planned = choices;
       left = subst (λ h. AreLeftFor query table h head docs) (sym same) (left_some held head cs (choices_for query table head) c.as_slice-conjuncts.result.now query.conjuncts c.in-Ok.docs docs choices conjuncts c.in-Some.is c.in-Ok.ensures.docs);
       ascend = subst IsStrictlyIncreasing c.docs.view_is (kept_increase c.docs.inside.kept c.docs.invariant);
       unsure = subst (λ h. HasUnsureFor query table h head unsure) (sym same) (subst (λ l. HasUnsure held head l query.conjuncts (length query.conjuncts) unsure) choices (subst (λ l. HasUnsure held head cs l (length l) unsure) conjuncts c.in-Ok.ensures.unsure));
     }
+
+pub returns-clause-full : goal.returns-clause-full
+returns-clause-full g c = λ full.
+    let same : g.S.Shelf.held c.documents.new.shelf ≡ g.S.Shelf.held c.args.shelf.now = c.in-Ok.ensures.reads.only_reads.held in
+    subst (λ h. IsImageOverfull c.args.query.now c.args.table.now h c.args.head.now (in_pool c.args.groups.now c.args.pool.now)) same
+    (c.scan_left.ensures.full full).over
+
+pub returns-clause-filled : goal.returns-clause-filled
+returns-clause-filled g c = λ full. (c.scan_left.ensures.full full).filled
 
 pub returns-in-Err-clause-reads : goal.returns-in-Err-clause-reads
 returns-in-Err-clause-reads g c = record {

@@ -47,7 +47,10 @@ returns-clause-full g c = λ full.
     let named : List Bool = c.as_slice-named.result.now in
     let is : named ≡ names_in c.args.query.now c.args.table.now =
     marks_are c.args.query.now c.args.table.now named c.len.result c.len.ensures (ap length c.as_slice-named.ensures.value ∙ c.in_ok-named.ensures.count) (λ column lt. ap (λ (l : List Bool). get_or l column false) c.as_slice-named.ensures.value ∙ c.in_ok-named.ensures.each column lt) in
-    overfull_whole c.image_law.ensures c.args.query.now c.args.table.now (g.S.Shelf.held c.args.shelf.now) c.args.head.now c.requires.room.valid c.requires.room.of_table c.requires.room.loaded named is (in_pool c.args.groups.now c.args.pool.now) (c.scan_columns.ensures.full full)
+    overfull_whole c.image_law.ensures c.args.query.now c.args.table.now (g.S.Shelf.held c.args.shelf.now) c.args.head.now c.requires.room.valid c.requires.room.of_table c.requires.room.loaded named is (in_pool c.args.groups.now c.args.pool.now) (c.scan_columns.ensures.full full).over
+
+pub returns-clause-filled : goal.returns-clause-filled
+returns-clause-filled g c = λ full. (c.scan_columns.ensures.full full).filled
 
 pub returns-clause-bad : goal.returns-clause-bad
 returns-clause-bad g c = λ part bad.

@@ -1,4 +1,4 @@
-use Rattle.std.proofs.Common.{rules, vec_len, ◌≡◌, ◌∙◌, ◌+◌, ◌++◌, ◌∷◌, ◌<◌, ◌≤◌, [], ℕ, List, Option, get_or, length, length-append, length-set, set, sym, ap, subst, arith}
+use Rattle.std.proofs.Common.{rules, vec_len, ◌≡◌, ◌∙◌, ◌+◌, ◌++◌, ◌∷◌, ◌<◌, ◌≤◌, [], ℕ, List, Option, get_or, length, length-append, length-set, set, sym, ap, arith}
 use Rattle.std.specs.Global.{Vec}
 use Rattle.serving.specs.Aside.{with_files}
 use Rattle.serving.specs.declared.cursor.Cursor.{Cursor}

@@ -1,4 +1,4 @@
-use Rattle.std.proofs.Common.{◌≡◌, ◌∙◌, Some, ap, map, refl, sym}
+use Rattle.std.proofs.Common.{◌≡◌, ◌∙◌, Some, ap, map, refl}
 use Rattle.segment_file.specs.Names.{file_of}
 use Rattle.serving.proofs.OpenedLemmas.{made_new}
 use Rattle.serving.proofs.opening.new_cursor.Goals as goal

@@ -1,4 +1,4 @@
-use Rattle.std.proofs.Common.{◌≡◌, ◌∙◌, ◌+◌, suc, Bool, nat_eq, None, take, sym, ap, subst, arith, true}
+use Rattle.std.proofs.Common.{◌≡◌, ◌∙◌, ◌+◌, suc, nat_eq, None, take, sym, ap, subst, arith}
 use Rattle.std.specs.Cmp.Lexicographic.{pointwise, texts_ties}
 use Rattle.serving.specs.Kept.{place_under, same_name}
 use Rattle.serving.specs.declared.cursor.Cursor.{Cursor}

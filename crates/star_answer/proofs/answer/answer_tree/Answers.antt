@@ -119,10 +119,14 @@ pub returns-in-Err-TooManyGroups-clause-full : goal.returns-in-Err-TooManyGroups
 returns-in-Err-TooManyGroups-clause-full g c is =
     let reads : c.as_slice-2.result.now ≡ reads_of c.args.tree.now c.args.task.now = c.as_slice-2.ensures
     ∙ c.in_ok-picks-2.ensures ∙ ap coalesced c.in_ok-picks.ensures in
-    steps.over c.args.tree.now c.args.task.now c.args.asked.now c.args.rows
-    (g.S.Shelf.held c.args.shelf.now) c.as_slice-2.result.now reads c.in-Ok.selected
-    c.in-Ok.ensures.selected (in_pool c.args.groups.now c.args.pool.now)
-    (c.in-Err-TooManyGroups.ensures.full (ap Err c.in-Err-TooManyGroups.field-0-is))
+    let full = ap Err c.in-Err-TooManyGroups.field-0-is in
+    record {
+      over = steps.over c.args.tree.now c.args.task.now c.args.asked.now c.args.rows
+          (g.S.Shelf.held c.args.shelf.now) c.as_slice-2.result.now reads c.in-Ok.selected
+          c.in-Ok.ensures.selected (in_pool c.args.groups.now c.args.pool.now)
+          (c.in-Err-TooManyGroups.ensures.full full);
+      filled = c.in-Err-TooManyGroups.ensures.filled full;
+    }
 
 pub returns-in-Err-TooManyGroups-clause-log_of_fault : goal.returns-in-Err-TooManyGroups-clause-log_of_fault
 returns-in-Err-TooManyGroups-clause-log_of_fault g c =

@@ -209,7 +209,7 @@ returns-clause-full g c is =
     steps.ready_full query table head t setting part task asked said held now ready
     c.in-Ok.ensures.reads.only_reads.held c.head_tells_law.ensures c.rows.result c.rows.ensures
     c.served_law.ensures.overfull (in_pool c.args.groups.now c.args.pool.now) c.requires.room.of_query
-    (c.in-Err-answer_tree.ensures.full (ap Err (c.of_tree.ensures.full own)))
+    (c.in-Err-answer_tree.ensures.full (ap Err (c.of_tree.ensures.full own))).over
 
 pub returns-clause-bad : goal.returns-clause-bad
 returns-clause-bad g c bad is =
@@ -246,7 +246,7 @@ returns-clause-bad g c bad is =
 pub returns-clause-filled : goal.returns-clause-filled
 returns-clause-filled g c is =
     let own : c.of_tree.result ≡ segments.TooManyGroups = cc in
-    c.in-Err-answer_tree.ensures.filled (ap Err (c.of_tree.ensures.full own))
+    (c.in-Err-answer_tree.ensures.full (ap Err (c.of_tree.ensures.full own))).filled
 
 pub returns-clause-log_of_fault : goal.returns-clause-log_of_fault
 returns-clause-log_of_fault g c =

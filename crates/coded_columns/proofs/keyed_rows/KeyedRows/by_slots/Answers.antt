@@ -1,4 +1,4 @@
-use Rattle.std.proofs.Common.{◌≡◌, ◌∙◌, ◌+◌, ℕ, List, length, map, get_or, ap, subst, arith}
+use Rattle.std.proofs.Common.{◌≡◌, ◌∙◌, ◌+◌, ℕ, List, length, map, get_or, refl, ap, subst, arith}
 use Rattle.std.proofs.lemmas.Bool.Decides.{nat_tests}
 use Rattle.coded_columns.specs.Keyed.{HoldAggs, rows_in}
 use Rattle.coded_columns.specs.Slots.{AreSlots}
@@ -24,5 +24,5 @@ returns c =
     let states : HoldAggs (length firsts) slots (rows_in c.args.placed) c.args.aggs.now c.in_ok-states.states.items =
     subst (λ (n : ℕ). HoldAggs n slots (rows_in c.args.placed) c.args.aggs.now c.in_ok-states.states.items) (omega (arith, c.len.ensures, c.in_ok-slots.field-0.firsts.ok.0, ap length firsts_are))
     (subst (λ (l : List ℕ). HoldAggs c.len.result l (rows_in c.args.placed) c.args.aggs.now c.in_ok-states.states.items) (c.deref.ensures.value ∙ slots_are) c.in_ok-states.ensures) in
-    slots-hold c.args.placed.segment.now c.args.groups.now c.args.aggs.now places slots firsts _ st c.args.placed.within
+    slots-hold c.args.placed.segment.now c.args.groups.now c.args.aggs.now places slots firsts _ st c.args.placed.within refl
     (c.in_ok-firsts.ensures ∙ ap (λ (l : List ℕ). map (λ first. get_or places first 0 + 1) l) (c.deref-2.ensures.value ∙ firsts_are)) states

@@ -1,23 +1,15 @@
-use Rattle.std.proofs.Common.{◌≡◌, ◌≢◌, ◌∙◌, ◌⊎◌, ◌∷◌, [], inl, inr, ℕ, List, Option, Ok, Err, refl, sym, ap, subst}
-use Rattle.std.specs.Prelude.{IsErrOf}
+use Rattle.std.proofs.Common.{◌≡◌, ◌∙◌, List, Ok, Err, refl, sym, ap, subst}
 use Rattle.std.specs.List.{AllByRecursion}
-use Rattle.outside.specs.Seen.{Seen, seen}
 use Rattle.segment_file.specs.Names.{file_of}
-use Rattle.table_store.specs.Calls.{CopiesFile}
-use Rattle.table_store.specs.Segments.{HasSegment, LacksSegment}
+use Rattle.table_store.specs.Segments.{LacksSegment}
 use Rattle.table_store.specs.declared.fault.StoreFault.{StoreFault}
-use Rattle.table_store.specs.declared.fault.StoreFault.TheVariants as store
-use Rattle.table_store.proofs.CopyLemmas.{copies_after}
-use Rattle.query_executor.proofs.EndLemmas.{Done, Failed}
-use Rattle.cursor_serve.specs.Machine.{dropped, replaced}
-use Rattle.serving.specs.Aside.{HasAnsweredFiles, IsAside, MayHaveCopy, is_awaited_in, kept_if, with_copy, with_files}
-use Rattle.serving.specs.Calls.{SameButOf, Serves}
-use Rattle.serving.specs.Faults.{of_store}
+use Rattle.cursor_serve.specs.Machine.{dropped}
+use Rattle.serving.specs.Aside.{IsAside, MayHaveCopy, is_awaited_in, kept_if, with_copy}
+use Rattle.serving.specs.Calls.{Serves}
 use Rattle.serving.specs.Kept.{AreCursors, IsOver, cursors_in}
 use Rattle.serving.specs.declared.aside.Aside.{Aside}
 use Rattle.serving.specs.declared.cursor.Cursor.{Cursor}
-use Rattle.serving.proofs.AsideLemmas.{answered_files, cursors_left, drop_only, drops, drops_missed, drops_none, failed_so, long_aside, lost_or_missed, others_copied, others_dropped, over_left}
-use Rattle.serving.proofs.CallLemmas.{ends_so, fails_so, of_removes, quiet}
+use Rattle.serving.proofs.AsideLemmas.{cursors_left, drops, drops_missed, drops_none, failed_so, lost_or_missed, others_copied, others_dropped, over_left}
 use Rattle.serving.proofs.serving.Serving.drop_live.Goals as goal
 
 pub returns-in-Err-clause-serves : goal.returns-in-Err-clause-serves

@@ -2,21 +2,17 @@ use Rattle.serving.proofs.ReadLemmas.{own_is, reads_done, reads_failed, reads_wh
 use Rattle.query_executor.proofs.EndLemmas.{Done, Failed}
 use Rattle.query_executor.specs.declared.fault.ExecutorFault.{ExecutorFault}
 use Rattle.query_executor.specs.Passes.{PassReads}
-use Rattle.std.proofs.Common.{◌≡◌, ◌∙◌, ◌+◌, ◌-◌, ◌<◌, ◌≤◌, ℕ, List, Some, Ok, Err, get_or, length, set, refl, sym, ap, subst, arith}
-use Rattle.std.specs.List.{AllByRecursion}
+use Rattle.std.proofs.Common.{◌≡◌, ◌∙◌, ◌-◌, ◌<◌, ◌≤◌, ℕ, List, Some, Ok, Err, get_or, length, set, sym, ap, subst, arith}
 use Rattle.outside.specs.Seen.{Seen, seen}
-use Rattle.sql_reply.specs.declared.fault.SqlFault.{SqlFault}
-use Rattle.segment_file.specs.declared.part.Part.{Part}
-use Rattle.query_executor.specs.declared.fault.ExecutorFault.TheVariants as executor
 use Rattle.cursor_serve.specs.Machine.{fetched}
 use Rattle.serving.specs.Answered.{AnswersRows, IsMoved, IsOverfull, next_stored}
 use Rattle.serving.specs.Calls.{ReadsOf, Serves}
 use Rattle.serving.specs.Faults.{of_query}
-use Rattle.serving.specs.Kept.{AreCursors, IsCursorIn, IsOver, KeepsAside, cursor_in, cursors_in, gatherer, place_under}
+use Rattle.serving.specs.Kept.{AreCursors, IsCursorIn, IsOver, cursors_in, gatherer, place_under}
 use Rattle.serving.specs.declared.cursor.Cursor.{Cursor}
 use Rattle.serving.specs.declared.fault.ServeFault.{ServeFault}
 use Rattle.serving.proofs.PlaceLemmas.{AtPlace, IsOther, all_same, at_place, cursors_aside, cursors_moved, each_at, each_set, gatherer_free, over_moved, place_within, puts_moved, set_same}
-use Rattle.serving.proofs.StepLemmas.{IsBadAt, fetches_none, fetches_moved, fetches_failed, fetches_lacking}
+use Rattle.serving.proofs.StepLemmas.{IsBadAt, fetches_none, fetches_moved, fetches_failed}
 use Rattle.serving.proofs.serving.Serving.fetch.Goals as goal
 
 pub returns-in_default-clause-serves : goal.returns-in_default-clause-serves

@@ -1,34 +1,26 @@
-use Rattle.std.proofs.Common.{◌≡◌, ◌≢◌, ◌∙◌, ◌⊎◌, ◌∷◌, [], inl, inr, ℕ, List, Option, Ok, Err, refl, sym, ap, subst}
+use Rattle.std.proofs.Common.{◌≡◌, ◌∙◌, inr, List, Ok, Err, refl, sym, ap, subst}
 use Rattle.std.specs.Prelude.{IsErrOf}
 use Rattle.std.specs.List.{AllByRecursion}
 use Rattle.outside.specs.Seen.{Seen, seen}
 use Rattle.segment_file.specs.Names.{file_of}
-use Rattle.table_store.specs.Calls.{CopiesFile}
+use Rattle.table_store.specs.Calls.{CopiesFile, OnlyPublishes}
 use Rattle.table_store.specs.Segments.{HasSegment, LacksSegment}
 use Rattle.table_store.specs.declared.fault.StoreFault.{StoreFault}
 use Rattle.table_store.specs.declared.fault.StoreFault.TheVariants as store
 use Rattle.table_store.proofs.CopyLemmas.{copies_after, copies_so}
 use Rattle.query_executor.proofs.EndLemmas.{Done, Failed}
-use Rattle.cursor_serve.specs.Machine.{dropped, replaced}
-use Rattle.serving.specs.Aside.{HasAnsweredFiles, IsAside, MayHaveCopy, is_awaited_in, kept_if, with_copy, with_files}
-use Rattle.serving.specs.Calls.{SameButOf, Serves}
-use Rattle.serving.specs.Faults.{of_store}
+use Rattle.cursor_serve.specs.Machine.{replaced}
+use Rattle.serving.specs.Aside.{IsAside, is_awaited_in, kept_if, with_copy}
+use Rattle.serving.specs.Calls.{Serves}
 use Rattle.serving.specs.Kept.{AreCursors, IsOver, cursors_in}
 use Rattle.serving.specs.declared.aside.Aside.{Aside}
 use Rattle.serving.specs.declared.cursor.Cursor.{Cursor}
-use Rattle.std.specs.List.{All}
-use Rattle.outside.specs.Files.{Lacks, with_file}
 use Rattle.values.specs.Columns.{rows_of}
 use Rattle.values.specs.declared.value.Value.{Value}
-use Rattle.segment_build.specs.Growing.{TreesFit, trees_fit}
 use Rattle.segment_file.specs.Image.{CanHold, image}
 use Rattle.segment_file.specs.Ordered.{ordered}
-use Rattle.table_store.specs.Calls.{OnlyPublishes}
-use Rattle.table_store.specs.Kept.{IsKeptName}
-use Rattle.serving.specs.Calls.{HasNoPlaceFor}
-use Rattle.serving.specs.Faults.{IsReplaceFault}
-use Rattle.serving.proofs.AsideLemmas.{answered_files, copy_named, cursors_left, drop_only, failed_so, long_aside, lost_but, lost_not_missed, lost_or_missed, lost_writing, no_place, not_large_drop, write_not_read, others_back, others_copied, others_put, over_left, replace_only, replaces, replaces_missed, replaces_none}
-use Rattle.serving.proofs.CallLemmas.{ends_large, ends_so, fails_back_after, fails_so, no_err, of_publishes, of_removes, quiet, quiet_large}
+use Rattle.serving.proofs.AsideLemmas.{cursors_left, failed_so, lost_but, lost_not_missed, lost_or_missed, lost_writing, no_place, write_not_read, others_back, others_copied, others_put, over_left, replaces, replaces_missed, replaces_none}
+use Rattle.serving.proofs.CallLemmas.{ends_large, fails_back_after, fails_so, no_err, of_publishes, of_removes, quiet, quiet_large}
 use Rattle.serving.proofs.serving.Serving.replace_live.Goals as goal
 
 pub returns-in-Err-clause-serves : goal.returns-in-Err-clause-serves

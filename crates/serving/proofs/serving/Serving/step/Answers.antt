@@ -1,16 +1,12 @@
 use Rattle.serving.proofs.ReadLemmas.{none_next, own_is, reads_done, reads_failed, reads_none}
 use Rattle.query_executor.proofs.EndLemmas.{Done, Failed}
-use Rattle.std.proofs.Common.{◌≡◌, ◌∙◌, ◌+◌, ◌-◌, ◌<◌, ◌≤◌, ℕ, List, Some, Ok, Err, get_or, length, set, refl, sym, ap, subst, arith}
-use Rattle.std.specs.List.{AllByRecursion}
+use Rattle.std.proofs.Common.{◌≡◌, ◌∙◌, ◌+◌, ◌-◌, ◌<◌, ℕ, List, Some, Ok, Err, get_or, length, set, sym, ap, subst, arith}
 use Rattle.outside.specs.Seen.{Seen, seen}
-use Rattle.sql_reply.specs.declared.fault.SqlFault.{SqlFault}
-use Rattle.segment_file.specs.declared.part.Part.{Part}
-use Rattle.query_executor.specs.declared.fault.ExecutorFault.TheVariants as executor
 use Rattle.cursor_serve.specs.Machine.{stepped}
-use Rattle.serving.specs.Answered.{IsMoved, IsOverfull, next_stored}
+use Rattle.serving.specs.Answered.{IsMoved, next_stored}
 use Rattle.serving.specs.Calls.{ReadsOf, Serves}
 use Rattle.serving.specs.Faults.{of_query}
-use Rattle.serving.specs.Kept.{AreCursors, IsCursorIn, IsOver, KeepsAside, cursor_in, cursors_in, gatherer, place_under}
+use Rattle.serving.specs.Kept.{AreCursors, IsCursorIn, IsOver, cursors_in, gatherer, place_under}
 use Rattle.serving.specs.declared.cursor.Cursor.{Cursor}
 use Rattle.serving.specs.declared.fault.ServeFault.{ServeFault}
 use Rattle.serving.proofs.PlaceLemmas.{AtPlace, IsOther, all_same, at_place, cursors_aside, cursors_moved, each_at, each_set, gatherer_free, over_moved, place_within, puts_moved, set_same}
