@@ -11,11 +11,15 @@ use std::mem;
 // upper.
 const FREE: u64 = u64::MAX;
 
-// How many slots are looked at for a text, from the slot of its hash on.
+// How many slots are looked at for a text, from the slot of its hash on, and then from that of its
+// other hash on.
+const FIRST_PROBES: usize = 8;
+
 const MOST_PROBES: usize = 32;
 
-/// Where a text may be found: slots by its hash, and an ordered map of the texts for which no slot
-/// near their own was free. So a look-up takes few steps whatever the texts are.
+/// Where a text may be found: slots by its hash, slots by another hash for those that found none
+/// near the first, and an ordered map of the texts for which none near either was free. So a
+/// look-up takes few steps whatever the texts are.
 ///
 /// What it holds is a guess: each text that it names is compared before its place is used, and a
 /// text that it misses is kept once more.
@@ -41,6 +45,16 @@ pub fn hash_of(bytes: &[u8]) -> u64 {
         None => few_bytes(bytes),
     };
     mixed(mixed(hash, last), 0) >> 32
+}
+
+// Another one, which texts that share the first do not share as a rule.
+fn other_hash_of(bytes: &[u8]) -> u64 {
+    let mut hash = !(bytes.len() as u64);
+    for byte in bytes {
+        hash = (hash ^ u64::from(*byte)).wrapping_mul(0xD6E8_FEB8_6659_FD93);
+        hash ^= hash >> 29;
+    }
+    hash >> 32
 }
 
 // A hash and one word more, of which each bit has a part in the upper half.
@@ -94,14 +108,14 @@ fn checked(texts: &TextPool, id: u32, bytes: &[u8]) -> Option<u32>
     }
 }
 
-// Puts a content into the first free slot from that of its hash on, if one of the first is free.
-fn put(slots: &mut [u64], content: u64) -> bool {
+// Puts a content into the first free slot from that of its hash on, if one of so many is free.
+fn put(slots: &mut [u64], content: u64, probes: usize) -> bool {
     let size = slots.len();
     if size == 0 {
         return false;
     }
     let mut at = (content >> 32) as usize & (size - 1);
-    for _ in 0..MOST_PROBES {
+    for _ in 0..probes {
         let Some(slot) = slots.get_mut(at) else {
             return false;
         };
@@ -143,6 +157,36 @@ impl TextIndex {
         if size == 0 {
             return None;
         }
+        let mut at = hash as usize & (size - 1);
+        for _ in 0..FIRST_PROBES {
+            let Some(slot) = self.slots.get(at) else {
+                return None;
+            };
+            if *slot == FREE {
+                return None;
+            }
+            if *slot >> 32 == hash {
+                let found = checked(texts, (*slot & 0xFFFF_FFFF) as u32, bytes);
+                if found.is_some() {
+                    return found;
+                }
+            }
+            at = at.wrapping_add(1) & (size - 1);
+        }
+        self.find_again(texts, bytes)
+    }
+
+    // The same by its other hash.
+    #[inline(never)]
+    fn find_again(&self, texts: &TextPool, bytes: &[u8]) -> Option<u32>
+        ensures place { IfSome result (λ id. slice_get texts.now id ≡ Some bytes.now) }
+        ensures text { IfSome result (λ _. is_utf8 bytes.now ≡ true) }
+    {
+        let size = self.slots.len();
+        if size == 0 {
+            return None;
+        }
+        let hash = other_hash_of(bytes);
         let mut at = hash as usize & (size - 1);
         for _ in 0..MOST_PROBES {
             let Some(slot) = self.slots.get(at) else {
@@ -187,7 +231,16 @@ impl TextIndex {
         if id as usize >= self.slots.len() / 2 {
             self.widen(texts)?;
         }
-        if !put(&mut self.slots, (hash << 32) | u64::from(id)) {
+        if !put(&mut self.slots, (hash << 32) | u64::from(id), FIRST_PROBES) {
+            self.note_again(text, id)?;
+        }
+        Ok(())
+    }
+
+    // Notes a text by its other hash.
+    fn note_again(&mut self, text: &str, id: u32) -> Result<(), AllocError> {
+        let hash = other_hash_of(text.as_bytes());
+        if !put(&mut self.slots, (hash << 32) | u64::from(id), MOST_PROBES) {
             self.crowd(text, id)?;
         }
         Ok(())
@@ -206,10 +259,10 @@ impl TextIndex {
         let wider = free_slots(self.alloc, size)?;
         let slots = mem::replace(&mut self.slots, wider);
         for slot in &slots {
-            if *slot != FREE && !put(&mut self.slots, *slot) {
+            if *slot != FREE && !put(&mut self.slots, *slot, FIRST_PROBES) {
                 let id = (*slot & 0xFFFF_FFFF) as u32;
                 if (id as usize) < texts.len() {
-                    self.crowd(texts.text(id as usize), id)?;
+                    self.note_again(texts.text(id as usize), id)?;
                 }
             }
         }
