@@ -15,6 +15,7 @@ use Rattle.bit_column.specs.Column.{width_of}
 use Rattle.bit_column.specs.Sections.{Readable, end_byte, first_byte}
 use Rattle.agg_laws.specs.Merged.{join_some}
 use Rattle.agg_laws.specs.Rows.{merged_rows}
+use Rattle.table_schema.specs.NeedIds.{is_set}
 use Rattle.table_schema.specs.ValidQuery.{IsValidQuery}
 use Rattle.table_schema.specs.ValidTable.{IsValidTable}
 use Rattle.table_schema.specs.declared.query.BoundQuery.{BoundQuery}
@@ -35,7 +36,7 @@ use Rattle.segment_file.specs.declared.part.Part.TheVariants.{Forward}
 use Rattle.segment_file.specs.declared.part.Part.TheVariants as parts
 use Rattle.segment_head.specs.Heads.{IsHeadOf, Seen, bytes_in, place_in}
 use Rattle.segment_head.specs.Stored.{IsOfImage}
-use Rattle.segment_plan.specs.Choices.{choice_of}
+use Rattle.segment_plan.specs.Choices.{are_consecutive, choice_of, is_sorted_on}
 use Rattle.segment_plan.specs.Laws.{HeadTells, PlanIsOver, TellsOf}
 use Rattle.segment_plan.specs.Matched.{AreLoaded, count_in, is_filtered, is_on, matched, passes, values_in}
 use Rattle.segment_plan.specs.Named.{AreNamedLoaded, agg_names, conjunct_names, is_in, names_in, query_names}
@@ -68,7 +69,7 @@ use Rattle.segment_scan.proofs.LeftImage.{check_within, left_count, permuted, su
 use Rattle.segment_scan.proofs.ServedLemmas.{unserved_names}
 use Rattle.query_executor.specs.Alike.{IdsAreAlike, IsAlike, with_own}
 use Rattle.segment_head.specs.ColumnIds.{with_ids}
-use Rattle.segment_opening.specs.Found.{IsFixed, IsTestedAlone, unfiltered}
+use Rattle.segment_opening.specs.Found.{IsTestedAlone, unfiltered}
 use Rattle.query_executor.specs.ByIds.{IsAskedOf, IsByIds}
 use Rattle.query_executor.proofs.IdsReads.{docs_alike, full_count, full_head, full_image, full_loaded, full_reads, full_values, given_count, matching_same, others_same, read_alike, same_marks}
 
@@ -91,9 +92,13 @@ agree_both named (x ∷ xs) (y ∷ ys) us vs here more = (here.0, agree_both nam
 
 -- ---- one conjunct on a column, and its choice
 
-module _ (table : Table) (column : ℕ) (choice : IndexChoice) (fixed : IsFixed table.settings column choice) (q : BoundQuery) (t : Test) (only : q.conjuncts ≡ One column t ∷ []) (h : Seen) where
-  pub choices_fixed : choices_for q table h ≡ choice ∷ []
-  choices_fixed = ap (map (choice_of table.settings h)) only ∙ ap (λ (x : IndexChoice). x ∷ []) (fixed h t)
+-- the choice by what indexes the column has, and by whether the ids follow one another
+abbrev pub choice_by : Bool → Bool → Bool → Bool → IndexChoice
+choice_by sorted inverted ranged follow = cond sorted Sorted (cond inverted Inverted (cond (ranged && follow) Range Unindexed))
+
+module _ (table : Table) (column : ℕ) (q : BoundQuery) (t : Test) (only : q.conjuncts ≡ One column t ∷ []) (h : Seen) where
+  pub choices_one : choices_for q table h ≡ choice_of table.settings h (One column t) ∷ []
+  choices_one = ap (map (choice_of table.settings h)) only
 
 module _ (column : ℕ) (s t : Test) where
   none_same : (c : IndexChoice) → indexed (c ∷ []) (One column s ∷ []) ≡ [] → indexed (c ∷ []) (One column t ∷ []) ≡ []
@@ -108,21 +113,8 @@ module _ (column : ℕ) (s t : Test) where
   tests_named Inverted k = refl
   tests_named Range k = refl
 
-  -- why an index is no index does not go by the test
-  bad_index : (held : Option Files) (h : Seen) (part : Part) (c : IndexChoice) → IsBadIndex held h part c (One column s) → IsBadIndex held h part c (One column t)
-  bad_index held h part Unindexed bad = bad
-  bad_index held h part Sorted bad = bad
-  bad_index held h part Inverted bad = bad
-  bad_index held h part Range bad = bad
-
-  bad_any : (held : Option Files) (h : Seen) (part : Part) (c : IndexChoice) (k : ℕ) (conjunct : Conjunct) → slice_get (One column s ∷ []) k ≡ Some conjunct → IsBadIndex held h part (choice_at (c ∷ []) k) conjunct → IsBadAny held h part (c ∷ []) (One column t ∷ [])
-  bad_any held h part c zero conjunct there bad =
-      let is : conjunct ≡ One column s = cc in
-      (0, One column t, refl, bad_index held h part c (subst (IsBadIndex held h part c) is bad))
-  bad_any held h part c (suc k) conjunct there bad = absurd cc
-
 module _ (query asked : BoundQuery) (column : ℕ) (test : Test) (ids : List ℕ) (alone : IsTestedAlone query column test) (by : IsByIds query asked column ids) where
-  rest_same : (c : IndexChoice) (k : ℕ) → query_names (rest_of asked (c ∷ [])) k ≡ query_names (rest_of query (c ∷ [])) k
+  pub rest_same : (c : IndexChoice) (k : ℕ) → query_names (rest_of asked (c ∷ [])) k ≡ query_names (rest_of query (c ∷ [])) k
   rest_same c k =
       (λ i. list_any (conjunct_names k) (unserved (c ∷ []) (by.only i)) || is_in asked.groups k || list_any (agg_names k) asked.aggs)
       ∙ (λ i. tests_named column by.test test c k i || is_in (by.groups_same i) k || list_any (agg_names k) (by.aggs_same i))
@@ -130,20 +122,6 @@ module _ (query asked : BoundQuery) (column : ℕ) (test : Test) (ids : List ℕ
 
   rest_marks : (table : Table) (c : IndexChoice) → names_in (rest_of asked (c ∷ [])) table ≡ names_in (rest_of query (c ∷ [])) table
   rest_marks table c = (λ i. map (λ k. rest_same c k i) (range_with_len 0 (length table.schema.fields)))
-
-  -- why a scan by ids is refused is why one by the values is
-  pub bad_alike : (table : Table) (choice : IndexChoice) → IsFixed table.settings column choice → (held : Option Files) (h : Seen) (part : Part) → IsBadIn asked table held h part → IsBadIn query table held h part
-  bad_alike table choice fixed held h part (inl (c, named, is, fails), none) =
-      let by_choice = choices_fixed table column choice fixed asked by.test by.only h in
-      let own_choice = choices_fixed table column choice fixed query test alone.only h in
-      let own : query_names (rest_for query table h) c ≡ true =
-      ap (λ cs. query_names (rest_of query cs) c) own_choice ∙ sym (rest_same choice c) ∙ sym (ap (λ cs. query_names (rest_of asked cs) c) by_choice) ∙ named in
-      (inl (c, own, is, fails), none)
-  bad_alike table choice fixed held h part (inr (at, conjunct, there, bad), none) =
-      let by_choice = choices_fixed table column choice fixed asked by.test by.only h in
-      let own_choice = choices_fixed table column choice fixed query test alone.only h in
-      let any = bad_any column by.test test held h part choice at conjunct (ap (λ xs. slice_get xs at) (sym by.only) ∙ there) (subst (λ cs. IsBadIndex held h part (choice_at cs at) conjunct) by_choice bad) in
-      (inr (subst (λ cs. IsBadAny held h part cs query.conjuncts) (sym own_choice) (subst (IsBadAny held h part (choice ∷ [])) (sym alone.only) any)), none)
 
 -- a section that is no index tells no ids
 never_told : (files : Files) (h : Seen) (part : Part) (ids : ℕ → List ℕ) (c : IndexChoice) (x : Conjunct) → IsBadIndex (Some files) h part c x → TellsIndexed files h ids c x → ⊥
@@ -179,7 +157,7 @@ none_any p (x ∷ xs) fails = let here = fails x in let more = none_any p xs fai
 -- ---- on the image of rows
 
 module _ (read : ImagesRead) (leave : ImagesLeave) (tells_law : HeadTells) (over_law : PlanIsOver) (query asked : BoundQuery) (table : Table) (files : Files) (rows : List (List Value)) (head : Seen) (column : ℕ) (test : Test) (choice : IndexChoice) (count : ℕ) (ids : List ℕ)
-    (a : IsAskedOf query asked table files rows head column test count ids) (fixed : IsFixed table.settings column choice) (some : ids ≢ []) where
+    (a : IsAskedOf query asked table files rows head column test count ids) (chosen : choice_of table.settings (with_ids column count head) (One column a.by.test) ≡ choice) (some : ids ≢ []) where
   abbrev os : List (List Value)
   os = ordered table.settings.sorted rows
 
@@ -190,10 +168,18 @@ module _ (read : ImagesRead) (leave : ImagesLeave) (tells_law : HeadTells) (over
   full = with_own table rows column head
 
   given_choices : choices_for asked table given ≡ choice ∷ []
-  given_choices = choices_fixed table column choice fixed asked a.by.test a.by.only given
+  given_choices = choices_one table column asked a.by.test a.by.only given ∙ ap (λ (x : IndexChoice). x ∷ []) chosen
+
+  matched_same : matching a.by.test (values_in given column) ≡ matching test (values_in full column)
+  matched_same = matching_same read tells_law query asked table files rows head column test count ids a
+
+  -- the choice goes by the ids that satisfy the test
+  choice_same : choice_of table.settings given (One column a.by.test) ≡ choice_of table.settings full (One column test)
+  choice_same =
+      (λ i. choice_by (is_sorted_on table.settings.sorted column) (is_set (slice_get table.settings.inverted column)) (is_set (slice_get table.settings.ranged column)) (are_consecutive (matched_same i)))
 
   full_choices : choices_for query table full ≡ choice ∷ []
-  full_choices = choices_fixed table column choice fixed query test a.alone.only full
+  full_choices = choices_one table column query test a.alone.only full ∙ ap (λ (x : IndexChoice). x ∷ []) (sym choice_same ∙ chosen)
 
   full_none : indexed_for asked table given ≡ [] → indexed_for query table full ≡ []
   full_none none =
@@ -207,9 +193,6 @@ module _ (read : ImagesRead) (leave : ImagesLeave) (tells_law : HeadTells) (over
 
   of_image : IsOfImage table files rows full
   of_image = full_image read tells_law query asked table files rows head column test count ids a
-
-  matched_same : matching a.by.test (values_in given column) ≡ matching test (values_in full column)
-  matched_same = matching_same read tells_law query asked table files rows head column test count ids a
 
   -- ---- counts
 
@@ -624,8 +607,8 @@ module _ (read : ImagesRead) (leave : ImagesLeave) (tells_law : HeadTells) (over
               (λ zero. some (a.found.ids_are ∙ ap (matching test) (sym own_values) ∙ matching_many test 0 (values_in full column) (sym matched_own ∙ zero))))
 
   alike_plan : (plan : ScanPlan) → IsValidQuery table query → is_pruned query head ≡ false → picked query table.settings.trees ≡ None → plan.choices ≡ choices_for asked table given → Scan plan ≡ plan_over query table os
-  alike_plan plan valid kept unpicked chosen =
-      let choices : plan.choices ≡ choices_for query table full = chosen ∙ given_choices ∙ sym full_choices in
+  alike_plan plan valid kept unpicked planned =
+      let choices : plan.choices ≡ choices_for query table full = planned ∙ given_choices ∙ sym full_choices in
       let made : Scan plan ≡ scan_of query table full = (λ i. Scan (record { choices = choices i })) in
       made
       ∙ (λ i. cond (sym kept i) Pruned (cond (sym not_emptied i) Empty (tree_or (scan_of query table full) (sym unpicked i))))
@@ -650,7 +633,9 @@ module _ (read : ImagesRead) (leave : ImagesLeave) (tells_law : HeadTells) (over
     logs_partly = alike_logs_partly;
     never_bad = alike_never_bad;
     plan_is = alike_plan;
+    choices_same = given_choices ∙ sym full_choices;
   }
 
 pub ids_are_alike : ImagesRead → ImagesLeave → HeadTells → PlanIsOver → IdsAreAlike
-ids_are_alike read leave tells_law over_law query asked table files rows head column test choice count ids a fixed some = alike read leave tells_law over_law query asked table files rows head column test choice count ids a fixed some
+ids_are_alike read leave tells_law over_law query asked table files rows head column test count ids a some =
+    alike read leave tells_law over_law query asked table files rows head column test (choice_of table.settings (with_ids column count head) (One column a.by.test)) count ids a refl some

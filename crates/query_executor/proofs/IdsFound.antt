@@ -18,7 +18,6 @@ use Rattle.segment_head.specs.Stored.{HasImage, IsOfImage}
 use Rattle.segment_head.specs.declared.column_ids.Matched.{Matched}
 use Rattle.segment_head.specs.declared.stored.Stored.{Stored}
 use Rattle.segment_plan.specs.Laws.{HeadTells, TellsOf}
-use Rattle.segment_plan.specs.declared.plans.IndexChoice.{IndexChoice}
 use Rattle.segment_plan.specs.Pruning.{is_excluded, is_pruned}
 use Rattle.segment_opening.specs.Calls.{IsOpened}
 use Rattle.segment_opening.specs.Found.{IsFoundAlone, IsFoundIn}
@@ -51,9 +50,9 @@ module _ (table : Table) (tells_law : HeadTells) (valid : IsValidTable table) wh
       let is = whole i.name i.file i.whole full i.part (dictionary_of table (ordered table.settings.sorted rows) column) (image_has files rows head i column lt) in
       record { count_is = is.0; ids_are = is.1 }
 
-  pub can_ask : (query : BoundQuery) → IsValidQuery table query → (held : Option Files) (segment : Stored) (head grown : Seen) (column : ℕ) (choice : IndexChoice) (matched : Matched) (by_tree : Bool) → IsOpened table held segment head → Grows table held head grown → is_pruned query head ≡ false
-      → (by_tree ≡ false → picked query table.settings.trees ≡ None) → IsFoundAlone query table held by_tree head grown column choice matched → CanAskByIds query table held segment grown column choice matched.count matched.ids
-  can_ask query query_valid held segment head grown column choice matched by_tree opened grows kept unpicked found =
+  pub can_ask : (query : BoundQuery) → IsValidQuery table query → (held : Option Files) (segment : Stored) (head grown : Seen) (column : ℕ) (matched : Matched) (by_tree : Bool) → IsOpened table held segment head → Grows table held head grown → is_pruned query head ≡ false
+      → (by_tree ≡ false → picked query table.settings.trees ≡ None) → IsFoundAlone query table held by_tree head grown column matched → CanAskByIds query table held segment grown column matched.count matched.ids
+  can_ask query query_valid held segment head grown column matched by_tree opened grows kept unpicked found =
       let f = found.found in
       let rows_same = grows.rows_same in
       let bounds_same = grows.bounds_same in
@@ -67,7 +66,7 @@ module _ (table : Table) (tells_law : HeadTells) (valid : IsValidTable table) wh
         test = f.test;
         alone = f.alone;
         within = f.within;
-        fixed = f.fixed;
+        met = f.met;
         few = f.few;
         some = found.some;
         found = found_of segment head column f.test matched f.within held f.whole opened.image;

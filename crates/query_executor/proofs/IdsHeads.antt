@@ -1,12 +1,13 @@
 -- A head with another dictionary of a column.
-use Rattle.std.proofs.Common.{◌≡◌, ◌≢◌, ◌∙◌, ◌<◌, ◌+◌, ◌==◌, ℕ, zero, suc, Bool, true, false, Option, Some, None, List, [], ◌∷◌, length, map, slice_get, refl, sym, ap, subst, arith}
+use Rattle.std.proofs.Common.{◌≡◌, ◌≢◌, ◌∙◌, ◌<◌, ◌+◌, ◌==◌, ℕ, zero, suc, Bool, true, false, Option, Some, None, List, [], ◌∷◌, length, map, slice_get, refl, sym, ap, subst, eq-eqb, arith}
 use Rattle.std.specs.List.{AllZip}
+use Rattle.std.proofs.lemmas.Bool.{eqb-true, false≢true}
 use Rattle.std.proofs.lemmas.List.{length-set}
 use Rattle.std.specs.Prelude.{set}
 use Rattle.value_ids.specs.Dictionary.{Distinct}
 use Rattle.table_schema.specs.declared.table.Table.{Table}
 use Rattle.segment_head.specs.Heads.{IsHeadOf, IsLoaded, IsPartOf, IsSlotOf, Seen, with_dictionary}
-use Rattle.segment_plan.specs.Matched.{values_in, values_of}
+use Rattle.segment_plan.specs.Matched.{count_in, values_in, values_of}
 
 slot_set : {A : Type 0} (ws xs : List (Option A)) (i : ℕ) (d : A) → AllZip IsSlotOf ws xs → slice_get ws i ≡ Some (Some d) → AllZip IsSlotOf ws (set xs i (Some d))
 slot_set [] [] i d all at = tt
@@ -54,17 +55,27 @@ set_part whole head column d part at = record {
 -- ---- the values
 
 module _ (table : Table) (head : Seen) (column : ℕ) (is : IsHeadOf table head) (lt : column < length table.schema.fields) (d : Distinct) where
-  there : slice_get (with_dictionary column d head).dictionaries column ≡ Some (Some d)
-  there = slice_get-set head.dictionaries column (Some d) (let slots = is.has.slots in omega (arith, lt, slots))
+  pub set_there : slice_get (with_dictionary column d head).dictionaries column ≡ Some (Some d)
+  set_there = slice_get-set head.dictionaries column (Some d) (let slots = is.has.slots in omega (arith, lt, slots))
 
   pub set_values : values_in (with_dictionary column d head) column ≡ d.values
-  set_values = ap values_of there
+  set_values = ap values_of set_there
 
   pub set_loaded : IsLoaded (with_dictionary column d head) column
-  set_loaded = (d, there)
+  set_loaded = (d, set_there)
 
 pub other_values : (head : Seen) (column : ℕ) (d : Distinct) (c : ℕ) → c ≢ column → values_in (with_dictionary column d head) c ≡ values_in head c
 other_values head column d c apart = ap values_of (slice_get-set_other head.dictionaries column c (Some d) apart)
 
 pub other_loaded : (head : Seen) (column : ℕ) (d : Distinct) (c : ℕ) → c ≢ column → IsLoaded head c → IsLoaded (with_dictionary column d head) c
 other_loaded head column d c apart loaded = (loaded.0, slice_get-set_other head.dictionaries column c (Some d) apart ∙ loaded.1)
+
+-- with dictionaries of as many values a head has as many in each column
+pub counts_alike : (table : Table) (head : Seen) (column : ℕ) (c d : Distinct) → IsHeadOf table head → column < length table.schema.fields → length c.values ≡ length d.values → (k : ℕ) → count_in (with_dictionary column c head) k ≡ count_in (with_dictionary column d head) k
+counts_alike table head column c d is lt same k = go (column == k) refl
+  where
+    go : (b : Bool) → column == k ≡ b → count_in (with_dictionary column c head) k ≡ count_in (with_dictionary column d head) k
+    go true e = subst (λ k. count_in (with_dictionary column c head) k ≡ count_in (with_dictionary column d head) k) (eqb-true column k e) (ap length (set_values table head column is lt c) ∙ same ∙ sym (ap length (set_values table head column is lt d)))
+    go false e =
+        let apart : k ≢ column = (λ is. false≢true (sym e ∙ eq-eqb column k (sym is))) in
+        ap length (other_values head column c k apart ∙ sym (other_values head column d k apart))

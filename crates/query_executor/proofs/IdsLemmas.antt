@@ -1,5 +1,5 @@
 -- What a scan by the ids of a column does to groups, reads and is refused by, for the query that tests its values.
-use Rattle.std.proofs.Common.{◌≡◌, ◌≢◌, ◌∙◌, ◌+◌, ◌<◌, ◌≤◌, ◌∷◌, [], ℕ, false, true, List, Option, Some, None, IfSome, Result, Ok, Err, inl, inr, length, map, refl, sym, ap, subst, arith}
+use Rattle.std.proofs.Common.{◌≡◌, ◌≢◌, ◌∙◌, ◌+◌, ◌<◌, ◌≤◌, ◌∷◌, [], ℕ, pos, Bool, false, true, List, Option, Some, None, IfSome, Result, Ok, Err, inl, inr, length, map, replicate, slice_get, refl, sym, ap, subst, arith}
 use Rattle.outside.specs.Files.{Files, bytes_of}
 use Rattle.outside.specs.Reads.{Entry}
 use Rattle.values.specs.declared.value.Value.{Value}
@@ -10,10 +10,10 @@ use Rattle.scan_engine.specs.Scanned.{HaveAtMost}
 use Rattle.scan_engine.proofs.AddLemmas.{at_most_more}
 use Rattle.segment_file.specs.Ordered.{ordered}
 use Rattle.segment_file.specs.declared.part.Part.{Part}
-use Rattle.segment_head.specs.ColumnIds.{ids_below, with_ids}
-use Rattle.segment_head.specs.Heads.{IsHeadOf, Seen}
+use Rattle.segment_head.specs.ColumnIds.{ids_below, numbers_below, with_ids}
+use Rattle.segment_head.specs.Heads.{IsHeadOf, Seen, with_dictionary}
 use Rattle.segment_head.specs.Heads as heads
-use Rattle.segment_head.specs.Stored.{HasImage, HasNoImage}
+use Rattle.segment_head.specs.Stored.{HasImage, HasNoImage, IsNoImage}
 use Rattle.segment_head.specs.declared.stored.Stored.{Stored}
 use Rattle.segment_head.proofs.SectionLemmas.{rows_few}
 use Rattle.segment_plan.specs.Laws.{HeadTells}
@@ -21,6 +21,20 @@ use Rattle.segment_plan.specs.Planned.{plan_over}
 use Rattle.segment_plan.specs.RowsLeft.{rows_left}
 use Rattle.segment_plan.specs.Named.{AreNamedLoaded}
 use Rattle.segment_plan.specs.declared.plans.IndexChoice.{IndexChoice}
+use Rattle.segment_plan.specs.declared.plans.IndexChoice.TheVariants.{Unindexed, Sorted, Inverted, Range}
+use Rattle.segment_plan.specs.Choices.{are_consecutive, choice_of, is_sorted_on}
+use Rattle.segment_plan.specs.Matched.{AreLoaded, values_in}
+use Rattle.segment_opening.proofs.NamedLemmas.{filtered_names}
+use Rattle.table_schema.specs.NeedIds.{is_set}
+use Rattle.table_schema.specs.declared.query.Conjunct.TheVariants.{One}
+use Rattle.value_ids.specs.Dictionary.{Distinct}
+use Rattle.value_ids.specs.Ids.{matching}
+use Rattle.values.specs.declared.value.Value.TheVariants.{Whole}
+use Rattle.values.specs.declared.test.Test.{Test}
+use Rattle.std.specs.List.{range_with_len}
+use Rattle.std.proofs.lemmas.List.{length-map, length-replicate}
+use Rattle.std.proofs.lemmas.List.FromFn.{length-range_with_len}
+use Rattle.query_executor.proofs.IdsRefused.{IsNear, bad_moved, copies, copies_consecutive, near_by, never_copies, range_follows, range_still, some_follow}
 use Rattle.segment_plan.specs.declared.plans.ScanPlan.{ScanPlan}
 use Rattle.segment_plan.specs.declared.plans.SegmentPlan.TheVariants.{Scan}
 use Rattle.segment_reads.specs.Logs.{EndsInHead}
@@ -31,8 +45,8 @@ use Rattle.segment_opening.specs.Opened.{IsHeadIn, IsSpreadIn}
 use Rattle.segment_scan.specs.Images.{AddsImage, AreDocs, ImagesLeave, ImagesRead, IsBadIn, IsImageOverfull, LogsScan, LogsScanPartly, choices_for}
 use Rattle.segment_scan.proofs.ScanReads.{image_scan, image_scan_partly}
 use Rattle.query_executor.specs.Alike.{IdsAreAlike, IsAlike, with_own}
-use Rattle.query_executor.proofs.IdsAlike.{bad_alike, choices_fixed}
-use Rattle.query_executor.proofs.IdsHeads.{set_head, set_loaded}
+use Rattle.query_executor.proofs.IdsAlike.{choice_by}
+use Rattle.query_executor.proofs.IdsHeads.{counts_alike, set_head, set_loaded, set_there, set_values}
 use Rattle.query_executor.proofs.IdsReads.{full_head, full_image, full_loaded, same_names, with_column}
 use Rattle.outside.specs.Seen as outside
 use Rattle.outside.proofs.ReadLemmas.{on-err}
@@ -44,15 +58,15 @@ use Rattle.segment_reads.proofs.LogLemmas.{logs_none}
 use Rattle.query_executor.proofs.EndLemmas.{fault_not, fault_ok, memory_not_bad, memory_not_full, memory_not_read, reads_unread}
 use Rattle.query_executor.proofs.OneReads.{given_up, none_one}
 use Rattle.query_executor.specs.ByIds.{CanAskByIds, IsAskedOf, IsByIds}
-use Rattle.query_executor.specs.Passes.{AddsSegment, IsBadPart}
+use Rattle.query_executor.specs.Passes.{AddsSegment, FailsInRows, IsBadPart}
 use Rattle.query_executor.specs.Steps.{AddsGroups, AddsStored, IsStoredOverfull, selected_in}
 
-module _ (query asked : BoundQuery) (table : Table) (segment : Stored) (head : Seen) (column : ℕ) (choice : IndexChoice) (count : ℕ) (ids : List ℕ) (by : IsByIds query asked column ids) where
+module _ (query asked : BoundQuery) (table : Table) (segment : Stored) (head : Seen) (column count : ℕ) (ids : List ℕ) (by : IsByIds query asked column ids) where
   abbrev pub given : Seen
   given = with_ids column count head
 
   abbrev Can : Option Files → Type 0
-  Can held = CanAskByIds query table held segment head column choice count ids
+  Can held = CanAskByIds query table held segment head column count ids
 
   pub given_head : (held : Option Files) → Can held → IsHeadOf table given
   given_head held can = set_head table head column (ids_below count) can.opened.of
@@ -68,8 +82,9 @@ module _ (query asked : BoundQuery) (table : Table) (segment : Stored) (head : S
   pub of_asked : (groups : KeptGroups) → IsTableOf query groups → IsTableOf asked groups
   of_asked groups is = record { columns = is.columns ∙ ap length (sym by.groups_same); kinds = is.kinds ∙ ap (map (λ agg. agg.kind)) (sym by.aggs_same) }
 
-  pub chosen : (held : Option Files) → Can held → (plan : ScanPlan) → plan.choices ≡ choice ∷ [] → plan.choices ≡ choices_for asked table given
-  chosen held can plan is = is ∙ sym (choices_fixed table column choice can.fixed asked by.test by.only given)
+  -- so the choices of a plan can be made
+  pub given_filtered : (held : Option Files) → Can held → AreLoaded asked.conjuncts given
+  given_filtered held can c on = given_loaded held can c (filtered_names asked c on)
 
   -- on the image of rows
   asked_of : (files : Files) (can : Can (Some files)) (rows : List (List Value)) → HasImage table files segment rows → IsAskedOf query asked table files rows head column can.test count ids
@@ -86,7 +101,7 @@ module _ (query asked : BoundQuery) (table : Table) (segment : Stored) (head : S
 
   module _ (law : IdsAreAlike) where
     alike : (files : Files) (can : Can (Some files)) (rows : List (List Value)) → HasImage table files segment rows → IsAlike query asked table files rows head column count
-    alike files can rows has = law query asked table files rows head column can.test choice count ids (asked_of files can rows has) can.fixed can.some
+    alike files can rows has = law query asked table files rows head column can.test count ids (asked_of files can rows has) can.some
 
     pub adds_by_ids : (held : Option Files) → Can held → (old new : KeptGroups) → AddsImage asked table held given old new → AddsStored query table held segment old new
     adds_by_ids held can old new a = record {
@@ -108,10 +123,10 @@ module _ (query asked : BoundQuery) (table : Table) (segment : Stored) (head : S
     no_image None can part bad = tt
     no_image (Some files) can part bad = λ rows has. (alike files can rows has).never_bad part bad
 
-    -- the head with ids is one of the segment where its file is the image of no rows
-    opened_given : (held : Option Files) → Can held → IfSome held (λ files. HasNoImage table files segment) → IsOpened table held segment given
-    opened_given held can none = record {
-      of = given_head held can;
+    -- the head with any dictionary of the column is one of the segment where its file is the image of no rows
+    opened_with : (d : Distinct) (held : Option Files) → Can held → IfSome held (λ files. HasNoImage table files segment) → IsOpened table held segment (with_dictionary column d head)
+    opened_with d held can none = record {
+      of = set_head table head column d can.opened.of;
       placed = can.opened.placed;
       image = image held none;
       ends = ends held can.opened.ends;
@@ -120,39 +135,99 @@ module _ (query asked : BoundQuery) (table : Table) (segment : Stored) (head : S
       said = said held can.opened.said;
     }
       where
-        image : (h : Option Files) → IfSome h (λ files. HasNoImage table files segment) → IsHeadIn table h segment given
+        image : (h : Option Files) → IfSome h (λ files. HasNoImage table files segment) → IsHeadIn table h segment (with_dictionary column d head)
         image None none = tt
         image (Some files) none = λ rows has. absurd (none rows has)
 
-        ends : (h : Option Files) → IfSome h (λ files. EndsInHead table files segment head) → IfSome h (λ files. EndsInHead table files segment given)
+        ends : (h : Option Files) → IfSome h (λ files. EndsInHead table files segment head) → IfSome h (λ files. EndsInHead table files segment (with_dictionary column d head))
         ends None e = tt
         ends (Some files) e = record { front = e.front; has = e.has; end = e.end }
 
-        spread : (h : Option Files) → IsSpreadIn table h segment head → IsSpreadIn table h segment given
+        spread : (h : Option Files) → IsSpreadIn table h segment head → IsSpreadIn table h segment (with_dictionary column d head)
         spread None s = tt
         spread (Some files) s = s
 
-        said : (h : Option Files) → IfSome h (λ files. heads.IsOpened table segment.name segment.file (bytes_of (Some files) segment.file) head) → IfSome h (λ files. heads.IsOpened table segment.name segment.file (bytes_of (Some files) segment.file) given)
+        said : (h : Option Files) → IfSome h (λ files. heads.IsOpened table segment.name segment.file (bytes_of (Some files) segment.file) head) → IfSome h (λ files. heads.IsOpened table segment.name segment.file (bytes_of (Some files) segment.file) (with_dictionary column d head))
         said None s = tt
         said (Some files) s = record { front = s.front; has = s.has; rows_are = s.rows_are; sections_are = s.sections_are; bounds_are = s.bounds_are }
 
-    pub bad_by_ids : (held : Option Files) → Can held → (part : Part) → IsBadIn asked table held given part → IsBadPart query table held segment part
-    bad_by_ids held can part bad =
-        let none = no_image held can part bad in
-        (inr (given, opened_given held can none, inl (can.unpicked, bad_alike query asked column can.test ids can.alone by table choice can.fixed held given part bad)), none)
+    -- what indexes the column has
+    abbrev is_sorted : Bool
+    is_sorted = is_sorted_on table.settings.sorted column
 
-    pub done_by_ids : (read : ImagesRead) → HeadTells → (held : Option Files) → Can held → (plan : ScanPlan) (docs : ℕ) → plan.choices ≡ choice ∷ [] → (a b : Option (List Entry)) → AreDocs asked table held given docs → LogsScan asked table held given docs a b → IsDoneIn query table held segment (Scan plan) docs
+    abbrev is_inverted : Bool
+    is_inverted = is_set (slice_get table.settings.inverted column)
+
+    abbrev is_ranged : Bool
+    is_ranged = is_set (slice_get table.settings.ranged column)
+
+    -- whether the ids that satisfy a test follow one another
+    abbrev follows : Seen → Test → Bool
+    follows h t = are_consecutive (matching t (values_in h column))
+
+    -- where no range index is asked, the head with ids is refused for the query too
+    fails_given : (held : Option Files) → Can held → (part : Part) → IsBadIn asked table held given part → (choice_of table.settings given (One column by.test) ≡ Range → ⊥) → FailsInRows query table held segment part
+    fails_given held can part bad never =
+        let near : IsNear (choice_of table.settings given (One column by.test)) (choice_of table.settings given (One column can.test)) = near_by is_sorted is_inverted is_ranged (follows given by.test) (follows given can.test) never in (
+          given,
+          opened_with (ids_below count) held can (no_image held can part bad),
+          inl (
+            can.unpicked,
+            bad_moved head column (ids_below count) (ids_below count) (λ k. refl) query asked can.test ids can.alone by table held part
+                (choice_of table.settings given (One column by.test)) (choice_of table.settings given (One column can.test)) refl refl near bad bad.1,
+          ),
+        )
+
+    -- else one that has so many copies of a value that satisfies the test
+    fails_ranged : (held : Option Files) → Can held → (part : Part) → IsBadIn asked table held given part → choice_of table.settings given (One column by.test) ≡ Range → FailsInRows query table held segment part
+    fails_ranged held can part bad ranged =
+        let v : Value = can.met.0 in
+        let copied : Seen = with_dictionary column (copies count v) head in
+        let of = can.opened.of in
+        let within = can.within in
+        let followed : are_consecutive (matching by.test (numbers_below count)) ≡ true =
+        ap (λ vs. are_consecutive (matching by.test vs)) (sym (set_values table head column of within (ids_below count))) ∙ range_follows is_sorted is_inverted is_ranged (follows given by.test) ranged in
+        let some : 0 < count = some_follow by.test count followed in
+        let long : length (numbers_below count) ≡ length (replicate count v) =
+        length-map (range_with_len 0 count) (λ n. Whole (pos n)) ∙ length-range_with_len 0 count ∙ sym (length-replicate count v) in
+        let all : follows copied can.test ≡ true =
+        ap (λ vs. are_consecutive (matching can.test vs)) (set_values table head column of within (copies count v)) ∙ copies_consecutive can.test v can.met.1 count some in
+        let own : choice_of table.settings copied (One column can.test) ≡ Range =
+        (λ i. choice_by is_sorted is_inverted is_ranged (all i)) ∙ range_still is_sorted is_inverted is_ranged (follows given by.test) ranged in (
+          copied,
+          opened_with (copies count v) held can (no_image held can part bad),
+          inl (
+            can.unpicked,
+            bad_moved head column (ids_below count) (copies count v) (counts_alike table head column (ids_below count) (copies count v) of within long) query asked can.test ids can.alone by table held part
+                Range Range ranged own (inl refl) bad (never held v of within some),
+          ),
+        )
+      where
+        never : (h : Option Files) (v : Value) → IsHeadOf table head → column < length table.schema.fields → 0 < count → IsNoImage table h (with_dictionary column (copies count v) head)
+        never None v of within some = tt
+        never (Some files) v of within some = λ rows. never_copies table files rows (with_dictionary column (copies count v) head) column count v (set_there table head column of within (copies count v)) some
+
+    pub bad_by_ids : (held : Option Files) → Can held → (part : Part) → IsBadIn asked table held given part → IsBadPart query table held segment part
+    bad_by_ids held can part bad = (inr (go (choice_of table.settings given (One column by.test)) refl), no_image held can part bad)
+      where
+        go : (c : IndexChoice) → choice_of table.settings given (One column by.test) ≡ c → FailsInRows query table held segment part
+        go Range e = fails_ranged held can part bad e
+        go Unindexed e = fails_given held can part bad (λ ranged. absurd cc)
+        go Sorted e = fails_given held can part bad (λ ranged. absurd cc)
+        go Inverted e = fails_given held can part bad (λ ranged. absurd cc)
+
+    pub done_by_ids : (read : ImagesRead) → HeadTells → (held : Option Files) → Can held → (plan : ScanPlan) (docs : ℕ) → plan.choices ≡ choices_for asked table given → (a b : Option (List Entry)) → AreDocs asked table held given docs → LogsScan asked table held given docs a b → IsDoneIn query table held segment (Scan plan) docs
     done_by_ids read tells None can plan docs choices x y are logs = tt
     done_by_ids read tells (Some files) can plan docs choices x y are logs = λ rows has.
         let os : List (List Value) = ordered table.settings.sorted rows in
         let a = asked_of files can rows has in
         let is = alike files can rows has in
-        let over : Scan plan ≡ plan_over query table os = is.plan_is plan can.query_valid can.kept can.unpicked (chosen (Some files) can plan choices) in
+        let over : Scan plan ≡ plan_over query table os = is.plan_is plan can.query_valid can.kept can.unpicked choices in
         let left = (is.docs docs x y are logs).told rows (full_image read tells query asked table files rows head column can.test count ids a) in
-        let own : choices_for query table (with_own table rows column head) ≡ plan.choices = choices_fixed table column choice can.fixed query can.test can.alone.only (with_own table rows column head) ∙ sym choices in
+        let own : choices_for query table (with_own table rows column head) ≡ plan.choices = sym is.choices_same ∙ sym choices in
         (over, left ∙ ap (λ cs. length (rows_left query cs os)) own ∙ ap (docs_by query table os) over)
 
-    module _ (read : ImagesRead) (leave : ImagesLeave) (tells : HeadTells) (plan : ScanPlan) (choices : plan.choices ≡ choice ∷ []) where
+    module _ (read : ImagesRead) (leave : ImagesLeave) (tells : HeadTells) (plan : ScanPlan) (choices : plan.choices ≡ choices_for asked table given) where
       pub reads_by_ids : (held : Option Files) → Can held → (docs : ℕ) (a b : Option (List Entry)) → LogsScan asked table held given docs a b → LogsOne (ReadsPlanned query table true) table held segment a b
       reads_by_ids None can docs a b logs = λ before entries was now. tt
       reads_by_ids (Some files) can docs a b logs = λ before entries was now rows has.
@@ -161,8 +236,8 @@ module _ (query asked : BoundQuery) (table : Table) (segment : Stored) (head : S
           let is = alike files can rows has in
           let full = with_own table rows column head in
           let i = full_image read tells query asked table files rows head column can.test count ids x in
-          let own : plan.choices ≡ choices_for query table full = choices ∙ sym (choices_fixed table column choice can.fixed query can.test can.alone.only full) in
-          let over : Scan plan ≡ plan_over query table os = is.plan_is plan can.query_valid can.kept can.unpicked (chosen (Some files) can plan choices) in
+          let own : plan.choices ≡ choices_for query table full = choices ∙ is.choices_same in
+          let over : Scan plan ≡ plan_over query table os = is.plan_is plan can.query_valid can.kept can.unpicked choices in
           subst (ReadsBy query table segment os true entries) over
           (image_scan read leave query table segment full rows can.valid
           (full_head read tells query asked table files rows head column can.test count ids x)
@@ -181,8 +256,8 @@ module _ (query asked : BoundQuery) (table : Table) (segment : Stored) (head : S
           let is = alike files can rows has in
           let full = with_own table rows column head in
           let i = full_image read tells query asked table files rows head column can.test count ids x in
-          let own : plan.choices ≡ choices_for query table full = choices ∙ sym (choices_fixed table column choice can.fixed query can.test can.alone.only full) in
-          let over : Scan plan ≡ plan_over query table os = is.plan_is plan can.query_valid can.kept can.unpicked (chosen (Some files) can plan choices) in
+          let own : plan.choices ≡ choices_for query table full = choices ∙ is.choices_same in
+          let over : Scan plan ≡ plan_over query table os = is.plan_is plan can.query_valid can.kept can.unpicked choices in
           subst (ReadsBy query table segment os false entries) over
           (image_scan_partly read leave query table segment full rows can.valid
           (full_head read tells query asked table files rows head column can.test count ids x)

@@ -16,5 +16,6 @@ mod IdsFound
 mod IdsHeads
 mod IdsReads
 mod IdsAlike
+mod IdsRefused
 mod IdsLemmas
 mod IdsTest

@@ -16,7 +16,6 @@ use Rattle.segment_file.specs.Ordered.{ordered}
 use Rattle.segment_file.specs.declared.part.Part.{Part}
 use Rattle.segment_head.specs.Heads.{Seen, with_dictionary}
 use Rattle.segment_file.specs.Image.{dictionary_of}
-use Rattle.segment_plan.specs.declared.plans.IndexChoice.{IndexChoice}
 use Rattle.segment_plan.specs.declared.plans.ScanPlan.{ScanPlan}
 use Rattle.segment_plan.specs.declared.plans.SegmentPlan.TheVariants.{Scan}
 use Rattle.segment_plan.specs.Named.{names_in, query_names}
@@ -26,7 +25,7 @@ use Rattle.segment_scan.specs.Agreement.{AgreeAll}
 use Rattle.segment_scan.specs.Images.{AreDocs, AreRead, IsBadIn, LogsScan, LogsScanPartly, choices_for}
 use Rattle.segment_scan.specs.Scans.{selected_read}
 use Rattle.segment_head.specs.ColumnIds.{with_ids}
-use Rattle.segment_opening.specs.Found.{IsFixed, unfiltered}
+use Rattle.segment_opening.specs.Found.{unfiltered}
 use Rattle.query_executor.specs.ByIds.{IsAskedOf}
 
 -- the rows that are read by ids and satisfy the filter agree, in the group columns and those of the
@@ -70,12 +69,13 @@ pub record IsAlike (query asked : BoundQuery) (table : Table) (files : Files)
       → picked query table.settings.trees ≡ None
       → plan.choices ≡ choices_for asked table (with_ids column count head)
       → Scan plan ≡ plan_over query table (ordered table.settings.sorted rows)
+  pub choices_same : choices_for asked table (with_ids column count head)
+      ≡ choices_for query table (with_own table rows column head)
 
--- so it is where the index of the column is the same for each test, and some id was found
+-- so it is where some id was found
 abbrev pub IdsAreAlike : Type 0
 IdsAreAlike =
     (query asked : BoundQuery) (table : Table) (files : Files) (rows : List (List Value))
-    (head : Seen) (column : ℕ) (test : Test) (choice : IndexChoice) (count : ℕ) (ids : List ℕ)
-    → IsAskedOf query asked table files rows head column test count ids
-    → IsFixed table.settings column choice → ids ≢ []
+    (head : Seen) (column : ℕ) (test : Test) (count : ℕ) (ids : List ℕ)
+    → IsAskedOf query asked table files rows head column test count ids → ids ≢ []
     → IsAlike query asked table files rows head column count

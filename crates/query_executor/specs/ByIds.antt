@@ -19,10 +19,9 @@ use Rattle.segment_head.specs.Heads.{IsHeadOf, Seen}
 use Rattle.segment_head.specs.Stored.{HasImage, IsOfImage}
 use Rattle.segment_head.specs.declared.stored.Stored.{Stored}
 use Rattle.segment_plan.specs.Named.{AreNamedLoaded}
-use Rattle.segment_plan.specs.declared.plans.IndexChoice.{IndexChoice}
 use Rattle.segment_plan.specs.Pruning.{is_pruned}
 use Rattle.segment_opening.specs.Calls.{IsOpened}
-use Rattle.segment_opening.specs.Found.{IsFixed, IsTestedAlone, unfiltered}
+use Rattle.segment_opening.specs.Found.{IsMet, IsTestedAlone, unfiltered}
 
 -- the query asks for the groups and aggregates of another, of the rows with one of these ids in the
 -- column
@@ -55,8 +54,7 @@ pub record IsAskedOf (query asked : BoundQuery) (table : Table) (files : Files)
 -- a query that tests a column alone may be asked of a segment by these ids of its values: all else
 -- that it names is loaded, and some row may satisfy it
 pub record CanAskByIds (query : BoundQuery) (table : Table) (held : Option Files)
-    (segment : Stored) (head : Seen) (column : ℕ) (choice : IndexChoice) (count : ℕ)
-    (ids : List ℕ) : Type 0 where
+    (segment : Stored) (head : Seen) (column count : ℕ) (ids : List ℕ) : Type 0 where
   pub valid : IsValidTable table
   pub query_valid : IsValidQuery table query
   pub opened : IsOpened table held segment head
@@ -66,7 +64,7 @@ pub record CanAskByIds (query : BoundQuery) (table : Table) (held : Option Files
   pub test : Test
   pub alone : IsTestedAlone query column test
   pub within : column < length table.schema.fields
-  pub fixed : IsFixed table.settings column choice
+  pub met : IsMet test
   pub few : count ≤ most_values
   pub some : ids ≢ []
   pub found : IfSome held (λ files. (rows : List (List Value)) → HasImage table files segment rows

@@ -1,6 +1,6 @@
 //! The rows of a segment are added by the ids of a column that a query tests alone.
 ghost use Rattle.group_table.specs.Pooled.{IsTableIn, StaysIn, in_pool};
-ghost use Rattle.std.specs.Prelude.{◌≡◌, ◌∷◌, [], IfOk};
+ghost use Rattle.std.specs.Prelude.{IfOk};
 ghost use Rattle.outside.specs.Seen.{seen};
 ghost use Rattle.segment_reads.specs.Looked.{IsDoneIn};
 ghost use Rattle.query_executor.specs.ByIds.{CanAskByIds};
@@ -10,15 +10,13 @@ use crate::asked::asked_by_ids;
 use crate::laws::ids_law;
 use crate::scanned::Scanned;
 use group_table::{GroupTable, SlotPool};
-use outside::{Seq, Shelf};
+use outside::Shelf;
 use segment_head::{EngineFault, Head, Stored};
 use segment_opening::Found;
-use segment_plan::{IndexChoice, ScanPlan, SegmentPlan, head_tells_law};
+use segment_plan::{ScanPlan, SegmentPlan, choices, head_tells_law};
 use segment_scan::{IdRooms, image_law, index_law, scan_segment};
 use star_answer::docs_bound_law;
-use std::alloc::Global;
 use table_schema::{BoundQuery, Table};
-use values::NoMemory;
 
 /// A query of a segment.
 #[derive(Drop)]
@@ -42,8 +40,8 @@ pub(crate) fn add_by_ids<S: Shelf>(
     requires pooled { IsTableIn groups.old pool.old }
     requires room { HasRoomFor asked.now.query.now (in_pool groups.old pool.old) }
     requires can { CanAskByIds asked.now.query.now asked.now.table.now (S.held shelf.old)
-        asked.now.segment.now head.old found.now.column found.now.choice
-        found.now.matched.count found.now.matched.ids }
+        asked.now.segment.now head.old found.now.column found.now.matched.count
+        found.now.matched.ids }
     ensures adds { AddsSegment asked.now.query.now asked.now.table.now asked.now.segment.now
         (in_pool groups.old pool.old) (in_pool groups.new pool.new)
         (seen S.Shelf shelf.old) (seen S.Shelf shelf.new) result }
@@ -59,7 +57,9 @@ pub(crate) fn add_by_ids<S: Shelf>(
     let alloc = rooms.alloc();
     head.keep_ids(alloc, found.column, found.matched.count)?;
     let by_ids = asked_by_ids(alloc, asked.query, found.column, &found.matched.ids)?;
-    let plan = plan_by(alloc, found.choice)?;
+    let conjuncts = by_ids.conjuncts.as_slice();
+    let choices = choices(alloc, conjuncts, &asked.table.settings, head)?;
+    let plan = ScanPlan { choices };
     match scan_segment(
         rooms,
         shelf,
@@ -76,13 +76,4 @@ pub(crate) fn add_by_ids<S: Shelf>(
         }),
         Err(fault) => Err(fault),
     }
-}
-
-// The plan to scan for one conjunct by this choice.
-fn plan_by(alloc: Global, choice: IndexChoice) -> Result<ScanPlan, NoMemory>
-    ensures { IfOk result (λ plan. plan.choices ≡ choice ∷ []) }
-{
-    let mut choices = Seq::with_capacity(alloc, 1)?;
-    choices.push(choice)?;
-    Ok(ScanPlan { choices })
 }

@@ -26,7 +26,7 @@ pub fn docs_law()
     served_law();
 }
 
-/// A scan by the ids of a column, whose index is the same for each test, is one by its values.
+/// A scan by the ids of a column is one by its values.
 pub(crate) fn ids_law()
     ensures { IdsAreAlike }
 {

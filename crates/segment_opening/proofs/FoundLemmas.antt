@@ -15,7 +15,6 @@ use Rattle.segment_head.specs.Lookups.{OfColumn}
 use Rattle.segment_head.specs.declared.column_ids.Matched.{Matched}
 use Rattle.segment_head.specs.declared.fault.EngineFault.{EngineFault}
 use Rattle.segment_head.specs.declared.fault.EngineFault.TheVariants as engine
-use Rattle.segment_plan.specs.declared.plans.IndexChoice.{IndexChoice}
 use Rattle.segment_plan.specs.Named.{agg_names, conjunct_names, is_in, query_names}
 use Rattle.segment_reads.proofs.LogLemmas.{reads_as}
 use Rattle.segment_opening.specs.Calls.{LoadsMore, LooksUp}
@@ -71,7 +70,7 @@ loads_looked table fault head a b l = record {
 
 -- ---- that no value satisfies the test
 
-pub found_none : (query : BoundQuery) (table : Table) (held : Option Files) (head : Seen) (column : ℕ) (choice : IndexChoice) (matched : Matched) → IsValidQuery table query → IsFound query table held head column choice matched → matched.ids ≡ [] → IsEmptied query table held head
-found_none query table held head column choice matched valid found none =
+pub found_none : (query : BoundQuery) (table : Table) (held : Option Files) (head : Seen) (column : ℕ) (matched : Matched) → IsValidQuery table query → IsFound query table held head column matched → matched.ids ≡ [] → IsEmptied query table held head
+found_none query table held head column matched valid found none =
     emptied_by table query valid held head 0 (One column found.test) (ap (λ cs. slice_get cs 0) found.alone.only)
     (matches_so table held head column found.test matched.ids none (ids_found table held head column found.test matched found.whole))

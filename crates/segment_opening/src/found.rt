@@ -1,40 +1,35 @@
 //! A column that a query tests alone is looked up where its dictionary lies.
-ghost use Rattle.std.specs.Prelude.{◌≡◌, ◌≤◌, ◌<◌, ◌∷◌, [], false, true, IfOk, IfSome, OnOk, length, slice_get};
+ghost use Rattle.std.specs.Prelude.{◌≡◌, ◌≤◌, ◌<◌, ◌∷◌, [], false, true, IfOk, IfSome, OnOk, length};
 ghost use Rattle.outside.specs.Seen.{seen};
 ghost use Rattle.values.specs.declared.test.Test as tests;
 ghost use Rattle.value_ids.specs.Dictionary.{most_values};
-ghost use Rattle.table_schema.specs.NeedIds.{is_set};
 ghost use Rattle.table_schema.specs.declared.query.Conjunct.TheVariants.{One};
 ghost use Rattle.segment_head.specs.Calls.{IsColumnOf};
 ghost use Rattle.segment_head.specs.Heads.{OfWhole};
 ghost use Rattle.segment_head.specs.Lookups.{OfColumn};
-ghost use Rattle.segment_plan.specs.Choices as spec;
 ghost use Rattle.segment_plan.specs.Named.{AreNamedLoaded, MarksColumns, query_names};
 ghost use Rattle.segment_opening.specs.Calls.{IsQueryOnHead, LoadsMore, LooksUp};
-ghost use Rattle.segment_opening.specs.Found.{IsFixed, IsFound, IsFoundIn, unfiltered};
+ghost use Rattle.segment_opening.specs.Found.{IsFound, IsFoundIn, IsMet, unfiltered};
 
 use crate::emptied::{is_large, names_few};
 use crate::loading::load_marked;
 use outside::Shelf;
 use segment_file::HeadFault;
 use segment_head::{EngineFault, Head, Matched, NoMemory};
-use segment_plan::{IndexChoice, is_indexed, named_columns};
+use segment_plan::{IndexChoice, named_columns};
 use std::alloc::Global;
-use table_schema::{BoundQuery, Conjunct, Settings, Table};
-use values::Test;
+use table_schema::{BoundQuery, Conjunct, Table};
+use values::{Test, Value, holds_value};
 
 /// What was found in the dictionary of a column that a query tests alone.
 #[derive(Drop)]
 pub struct Found {
     pub column: u16,
-    /// The index of the column.
-    pub choice: IndexChoice,
     pub matched: Matched,
 }
 
-/// Looks up the column of a query that tests one column, which has a large dictionary and no range
-/// index, and asks no more of it; unless a star-tree answers. Bounds are cut where the dictionary
-/// lies.
+/// Looks up the column of a query that tests one column, which has a large dictionary, and asks no
+/// more of it; unless a star-tree answers. Bounds are cut where the dictionary lies.
 pub(crate) fn look_up<S: Shelf>(
     alloc: Global,
     shelf: &mut S,
@@ -46,7 +41,7 @@ pub(crate) fn look_up<S: Shelf>(
     requires { IsQueryOnHead query.now table.now head.now }
     ensures untreed { IfOk result (λ found. IfSome found (λ f. by_tree ≡ false)) }
     ensures found { IfOk result (λ found. IfSome found (λ f.
-        IsFound query.now table.now (S.held shelf.old) head.now f.column f.choice f.matched)) }
+        IsFound query.now table.now (S.held shelf.old) head.now f.column f.matched)) }
     ensures looks { LooksUp table.now result head.now
         (seen S.Shelf shelf.old) (seen S.Shelf shelf.new) }
 {
@@ -57,12 +52,9 @@ pub(crate) fn look_up<S: Shelf>(
     let Conjunct::One(column, test) = &conjuncts[0] else {
         return Ok(None);
     };
-    if !is_large(head, *column) || !names_few(test) {
+    if !is_large(head, *column) || !names_few(test) || !is_met(test) {
         return Ok(None);
     }
-    let Some(choice) = fixed_choice(&table.settings, *column) else {
-        return Ok(None);
-    };
     let others = other_columns(alloc, query, table.schema.fields.len())?;
     if others[*column as usize] {
         return Ok(None);
@@ -70,7 +62,6 @@ pub(crate) fn look_up<S: Shelf>(
     match find(alloc, shelf, table, head, *column, test) {
         Ok(Some(matched)) => Ok(Some(Found {
             column: *column,
-            choice,
             matched,
         })),
         Ok(None) => Ok(None),
@@ -134,36 +125,22 @@ fn other_columns(alloc: Global, query: &BoundQuery, count: usize) -> Result<Vec<
     named_columns(alloc, query, &[IndexChoice::Sorted], count)
 }
 
-// The index by which the rows of a conjunct on the column are found, where it is the same for each
-// test.
-fn fixed_choice(settings: &Settings, column: u16) -> Option<IndexChoice>
-    ensures { IfSome result (λ choice. IsFixed settings.now column choice) }
+// Whether the first value that a test names satisfies it, so that some value does.
+fn is_met(test: &Test) -> bool
+    ensures { result ≡ true → IsMet test.now }
 {
-    if !is_indexed(settings, column) {
-        return Some(IndexChoice::Unindexed);
+    match first_named(test) {
+        Some(value) => holds_value(test, value),
+        None => false,
     }
-    if is_sorted_on(settings, column) {
-        return Some(IndexChoice::Sorted);
-    }
-    if is_inverted(settings, column) {
-        return Some(IndexChoice::Inverted);
-    }
-    None
 }
 
-// The column is the sorted one.
-fn is_sorted_on(settings: &Settings, column: u16) -> bool
-    ensures { result ≡ spec.is_sorted_on settings.now.sorted column }
-{
-    matches!(settings.sorted, Some(sorted) if sorted == column)
-}
-
-// The column has an inverted index.
-fn is_inverted(settings: &Settings, column: u16) -> bool
-    ensures { result ≡ is_set (slice_get settings.now.inverted column) }
-{
-    matches!(
-        settings.inverted.as_slice().get(column as usize),
-        Some(true)
-    )
+// The first value that a test names by itself.
+fn first_named(test: &Test) -> Option<&Value> {
+    match test {
+        Test::Compare(_, bound) => Some(bound),
+        Test::OneOf(members, _) => members.as_slice().first(),
+        Test::Between(low, _, _) => Some(low),
+        _ => None,
+    }
 }

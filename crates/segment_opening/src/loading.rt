@@ -41,7 +41,7 @@ pub fn load_or_look_up<S: Shelf>(
         HasWanted query.now by_tree head.new) }
     ensures found { IfOk result (λ loaded. (found : spec.Found) → loaded ≡ kind.But found →
         IsFoundAlone query.now table.now (S.held shelf.old) by_tree head.old head.new
-        found.column found.choice found.matched) }
+        found.column found.matched) }
 {
     match look_up(alloc, shelf, table, query, by_tree, head) {
         Ok(Some(found)) => load_but(alloc, shelf, table, query, found, head),
@@ -164,7 +164,7 @@ fn load_but<S: Shelf>(
 ) -> Result<Loaded, EngineFault>
     requires asked { IsQueryOnHead query.now table.now head.old }
     requires found { IsFound query.now table.now (S.held shelf.old) head.old found.column
-        found.choice found.matched }
+        found.matched }
     ensures loads { LoadsMore table.now result head.old head.new
         (seen S.Shelf shelf.old) (seen S.Shelf shelf.new) }
     ensures emptied { IfOk result (λ loaded. loaded ≡ kind.Emptied →
@@ -172,7 +172,7 @@ fn load_but<S: Shelf>(
     ensures partly { IfOk result (λ loaded. loaded ≢ kind.Wanted) }
     ensures found { IfOk result (λ loaded. (f : spec.Found) → loaded ≡ kind.But f →
         IsFoundAlone query.now table.now (S.held shelf.old) false head.old head.new
-        f.column f.choice f.matched) }
+        f.column f.matched) }
 {
     if found.matched.ids.is_empty() {
         return Ok(Loaded::Emptied);

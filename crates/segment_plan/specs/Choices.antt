@@ -30,12 +30,6 @@ abbrev pub is_sorted_on : Option ℕ → ℕ → Bool
 is_sorted_on None column = false
 is_sorted_on (Some sorted) column = sorted == column
 
--- the column has no index
-pub record IsUnindexed (settings : Settings) (column : ℕ) : Type 0 where
-  pub unsorted : is_sorted_on settings.sorted column ≡ false
-  pub uninverted : is_set (slice_get settings.inverted column) ≡ false
-  pub unranged : is_set (slice_get settings.ranged column) ≡ false
-
 -- the first of these that serves: the sorted column, an inverted index, and a range index where the
 -- matching ids are consecutive
 abbrev pub choice_of : Settings → Seen → Conjunct → IndexChoice

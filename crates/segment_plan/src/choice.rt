@@ -1,5 +1,5 @@
 //! The index by which the rows of a conjunct are found.
-ghost use Rattle.std.specs.Prelude.{◌≡◌, IfOk, false, map, slice_get};
+ghost use Rattle.std.specs.Prelude.{◌≡◌, IfOk, map, slice_get};
 ghost use Rattle.table_schema.specs.NeedIds.{is_set};
 ghost use Rattle.segment_plan.specs.Choices as spec;
 ghost use Rattle.segment_plan.specs.Matched.{AreLoaded};
@@ -10,15 +10,6 @@ use segment_head::Head;
 use std::alloc::Global;
 use table_schema::{Conjunct, Settings};
 use value_ids::IdSet;
-
-/// Whether the column has an index.
-pub fn is_indexed(settings: &Settings, column: u16) -> bool
-    ensures { result ≡ false → spec.IsUnindexed settings.now column }
-{
-    is_sorted_on(settings.sorted, column)
-        || is_set(settings.inverted.as_slice(), column)
-        || is_set(settings.ranged.as_slice(), column)
-}
 
 /// There are ids, and no id between them is left out. They ascend, so the ends tell.
 pub fn are_consecutive(ids: &IdSet) -> bool
@@ -32,7 +23,7 @@ pub fn are_consecutive(ids: &IdSet) -> bool
 }
 
 /// A choice for each conjunct.
-pub(crate) fn choices(
+pub fn choices(
     alloc: Global,
     conjuncts: &[Conjunct],
     settings: &Settings,

@@ -12,7 +12,7 @@ mod pruning;
 mod serving;
 mod split_factors;
 
-pub use choice::{are_consecutive, is_indexed};
+pub use choice::{are_consecutive, choices};
 pub use data_types::NoMemory;
 pub use explained::{push_plan, push_word};
 pub use laws::{

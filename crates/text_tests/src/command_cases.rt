@@ -3,15 +3,16 @@
 //! `file NAME TEXT`, `ones NAME COUNT` and `numbers NAME COUNT` give a file to be read by the
 //! commands after it, that text, a column of so many ones, or one of the numbers from 1 on;
 //! `multiples NAME FIRST COUNT` gives one of five columns, the numbers from FIRST on, their double,
-//! and so on up to their fivefold, and `padded NAME COUNT TEXT` that text and so many blanks;
-//! `stored NAME TEXT` gives a published file of the store, and `segments COUNT` so many with names
-//! of segments' files, from `g1.seg` on. The calls that fail are `DEVICE:NUMBER`, with blanks
-//! between them, or `DEVICE:NUMBER..` for all from one on. In their place `then` keeps the devices
-//! of the command before, `again` keeps the published files alone, as after a restart, with calls
-//! that fail after it, if any, and `long` says of every input file that it is too long. `length 0`,
-//! `length + 1` and `length - 1` say something false of the length of every input file, the same
-//! with `stored` of that of every published file, and with `segments` of those with names of
-//! segments. A word `pad COUNT TEXT` is the text with so many bytes, by blanks at its end.
+//! and so on up to their fivefold; `texts NAME FIRST COUNT` gives one of two columns, the numbers
+//! from FIRST on and each as a text after a `t`; `padded NAME COUNT TEXT` gives that text and so
+//! many blanks; `stored NAME TEXT` gives a published file of the store, and `segments COUNT` so
+//! many with names of segments' files, from `g1.seg` on. The calls that fail are `DEVICE:NUMBER`,
+//! with blanks between them, or `DEVICE:NUMBER..` for all from one on. In their place `then` keeps
+//! the devices of the command before, `again` keeps the published files alone, as after a restart,
+//! with calls that fail after it, if any, and `long` says of every input file that it is too long.
+//! `length 0`, `length + 1` and `length - 1` say something false of the length of every input file,
+//! the same with `stored` of that of every published file, and with `segments` of those with names
+//! of segments. A word `pad COUNT TEXT` is the text with so many bytes, by blanks at its end.
 //!
 //! The word `open?` opens the table, `file?` shows its file, and `names` the names of the published
 //! files. `noted FILE` serves a file with such names after each mark, and `cut DEVICE FILE` serves
@@ -37,6 +38,7 @@ enum Gift {
     Numbers,
     Multiples,
     Padded,
+    Texts,
     Segments,
     Span,
 }
@@ -48,6 +50,7 @@ const GIFTS: &[(&str, Gift)] = &[
     ("numbers", Gift::Numbers),
     ("multiples", Gift::Multiples),
     ("padded", Gift::Padded),
+    ("texts", Gift::Texts),
     ("segments", Gift::Segments),
     ("span", Gift::Span),
 ];
@@ -120,6 +123,25 @@ fn with_blanks(alloc: Global, text: &str, count: u32) -> Vec<u8> {
         let _pushed = bytes.push(b' ');
     }
     bytes
+}
+
+// A row of a number as a text, and the number.
+fn add_spelled(text: &Text, key: u64) {
+    text.add("t");
+    text.add_count(key);
+    text.add(",");
+    text.add_count(key);
+    text.add("\n");
+}
+
+// Columns `k` and `a`: numbers from one on as texts, and as numbers.
+fn texts(alloc: Global, first: u32, count: u32) -> Vec<u8> {
+    let text = Text::new(alloc);
+    text.add("k,a\n");
+    for at in 0..count {
+        add_spelled(&text, u64::from(first) + u64::from(at));
+    }
+    text.into_string().into_bytes()
 }
 
 // The text of a word, with blanks at its end until it has so many bytes.
@@ -218,6 +240,11 @@ impl<'a> Given<'a> {
                 let (count, text) = parted(rest, ' ');
                 let bytes = with_blanks(alloc, text, number(count));
                 add_file(alloc, &mut self.files, name, bytes);
+            }
+            Gift::Texts => {
+                let (first, count) = parted(rest, ' ');
+                let rows = texts(alloc, number(first), number(count));
+                add_file(alloc, &mut self.files, name, rows);
             }
             Gift::Segments => add_segments(alloc, &mut self.stored, number(name)),
             Gift::Span => {

@@ -8,7 +8,7 @@ use Rattle.segment_opening.proofs.loading.load_but.Goals as goal
 pub returns-then-is_empty-clause-emptied : goal.returns-then-is_empty-clause-emptied
 returns-then-is_empty-clause-emptied g c = λ is.
     let found = c.args.found in
-    found_none c.args.query.now c.args.table.now (g.S.Shelf.held c.args.shelf.now) c.args.head.now found.column found.choice found.matched c.requires.asked.query c.requires.found
+    found_none c.args.query.now c.args.table.now (g.S.Shelf.held c.args.shelf.now) c.args.head.now found.column found.matched c.requires.asked.query c.requires.found
     (none_of found.matched.ids (sym c.is_empty.ensures ∙ c.if-is_empty.true))
 
 pub returns-in-Err-clause-loads : goal.returns-in-Err-clause-loads

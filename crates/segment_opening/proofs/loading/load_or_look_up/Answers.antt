@@ -22,7 +22,7 @@ returns-in-Ok-Some-clause-found g c =
     let table = c.args.table.now in
     let head = c.args.head.now in
     let grown = c.load_but.new.head in
-    let IsSo : Option Files → Bool → Type 0 = λ held by_tree. IfOk c.load_but.result (λ loaded. (found : Found) → loaded ≡ But found → IsFoundAlone query table held by_tree head grown found.column found.choice found.matched) in
+    let IsSo : Option Files → Bool → Type 0 = λ held by_tree. IfOk c.load_but.result (λ loaded. (found : Found) → loaded ≡ But found → IsFoundAlone query table held by_tree head grown found.column found.matched) in
     let untreed = subst (λ (o : Option Found). IfSome o (λ f. c.args.by_tree ≡ false)) c.in-Ok-Some.field-0-is c.in-Ok-Some.ensures.untreed in
     subst (λ held. IsSo held c.args.by_tree) c.in-Ok-Some.ensures.looks.only_reads.held
     (subst (IsSo (g.S.Shelf.held c.look_up.new.shelf)) (sym untreed) c.load_but.ensures.found)
