@@ -3,3 +3,4 @@ pub mod Groups
 pub mod Kept
 pub mod Pooled
 pub mod QueryPool
+pub mod Saved

@@ -59,10 +59,25 @@ pub record KeepsOthers (owner : ℕ) (old new : Pool) : Type 0 where
   pub width : new.width ≡ old.width
   pub others : (other : ℕ) → other ≢ owner → slots_of new other ≡ slots_of old other
 
--- a table in a pool is one still, of the same owner, and no slot of another owner has changed
+-- the same table with other slots
+abbrev pub with_slots : PooledTable → List (List Value × Place) → PooledTable
+with_slots table slots = record {
+  columns = table.columns;
+  owner = table.owner;
+  most = table.most;
+  slots = slots;
+}
+
+-- the same table but for groups that have come after those that it had
+abbrev pub Extends : PooledTable → PooledTable → Type 0
+Extends old new = (more : List (List Value × Place)) × (new ≡ with_slots old (old.slots ++ more))
+
+-- a table in a pool is one still, of the same owner, with its groups in their slots and perhaps
+-- more after them, and no slot of another owner has changed
 pub record StaysIn (old : PooledTable) (old_pool : Pool) (new : PooledTable) (new_pool : Pool)
     : Type 0 where
   pub owner : new.owner ≡ old.owner
+  pub extends : Extends old new
   pub table : IsTableIn new new_pool
   pub keeps : KeepsOthers old.owner old_pool new_pool
 
@@ -83,15 +98,6 @@ place_at slots at =
 -- that of a table
 abbrev pub slot_at : PooledTable → ℕ → Place
 slot_at table at = place_at table.slots at
-
--- the same table with other slots
-abbrev pub with_slots : PooledTable → List (List Value × Place) → PooledTable
-with_slots table slots = record {
-  columns = table.columns;
-  owner = table.owner;
-  most = table.most;
-  slots = slots;
-}
 
 -- a key that was new has a group without values, in a slot that was taken
 pub record Starts (key : List Value) (slot : Place) (old : PooledTable) (old_pool : Pool)

@@ -52,3 +52,15 @@ pub(crate) fn merge_part(cells: &mut [AggState], into: usize, from: usize, count
         cells[into + i].merge(&state);
     }
 }
+
+/// Puts the states from one place on in the place of those from another one on.
+pub(crate) fn copy_part(cells: &mut [AggState], into: usize, from: usize, count: usize)
+    requires into { into + count ≤ length cells.old }
+    requires from { from + count ≤ length cells.old }
+    requires apart { (into + count ≤ from) ⊎ (from + count ≤ into) }
+    ensures { cells.new ≡ with_part cells.old into count (part_of cells.old from count) }
+{
+    for i in 0..count {
+        cells[into + i] = cells[from + i];
+    }
+}

@@ -5,12 +5,12 @@ ghost use Rattle.std.specs.Prelude.{◌∷◌, slice_get, slice_set, Some, None,
 ghost use Rattle.std.specs.Borrow.{sem};
 ghost use Rattle.agg_laws.specs.Numbers.{most_values};
 ghost use Rattle.agg_laws.specs.Rows.{row_of, kinds_of, merged_rows, RowFits};
-ghost use Rattle.state_pool.specs.Pool.{IsNew, IsOut, Takes, GivesBack, Writes, SetsKinds};
+ghost use Rattle.state_pool.specs.Pool.{IsNew, IsOut, Takes, TakesWith, GivesBack, Writes, SetsKinds};
 ghost use Rattle.state_pool.specs.Pool.{quota_of, kinds_at, held, states_at, with_state};
 ghost use Rattle.state_pool.specs.Kept.{AreFree, HasRoom, TakesCells, TakesNumber};
 ghost use Rattle.state_pool.specs.Lent.{LendsState};
 
-use crate::cells::{add_cells, merge_cells, merge_part};
+use crate::cells::{add_cells, copy_part, merge_cells, merge_part};
 use crate::slot::Slot;
 use crate::units::{add_spare, add_units, write_units};
 use agg_laws::{AggKind, AggState, Kinds, NoMemory};
@@ -122,6 +122,23 @@ impl SlotPool {
         Some(Slot { owner, number })
     }
 
+    /// A slot of another owner with the states of one, whose kinds are the same, unless the owner
+    /// holds as many slots as it may. No other slot changes.
+    pub fn take_copy(&mut self, owner: u16, from: &Slot) -> Option<Slot>
+        requires owner { owner < length self.old.quotas }
+        requires from { IsOut self.old from.now }
+        requires apart { from.now.owner ≢ owner }
+        requires kinds { kinds_at self.old owner ≡ kinds_at self.old from.now.owner }
+        ensures full { result ≡ None ↔ (held self.old owner ≡ quota_of self.old owner) }
+        ensures kept { result ≡ None → self.new ≡ self.old }
+        ensures taken { IfSome result (λ slot. TakesWith owner (states_at self.old from.now) slot
+            self.old self.new) }
+    {
+        let slot = self.take(owner)?;
+        self.copy_slot(&slot, from);
+        Some(slot)
+    }
+
     /// Takes a slot back from its owner.
     pub fn give_back(&mut self, slot: Slot)
         requires { IsOut self.old slot }
@@ -197,6 +214,22 @@ impl SlotPool {
         let into = slot.number as usize * self.width;
         let from = from.number as usize * self.width;
         merge_part(self.cells.as_mut_slice(), into, from, count);
+    }
+
+    /// The states in a slot of another owner in the place of a slot's own. No other slot changes,
+    /// and no memory is taken.
+    pub fn copy_slot(&mut self, slot: &Slot, from: &Slot)
+        requires out { IsOut self.old slot.now }
+        requires from { IsOut self.old from.now }
+        requires apart { from.now.owner ≢ slot.now.owner }
+        requires kinds { kinds_of (states_at self.old slot.now)
+            ≡ kinds_of (states_at self.old from.now) }
+        ensures { Writes slot.now (states_at self.old from.now) self.old self.new }
+    {
+        let count = self.owners[slot.owner as usize].kinds.len();
+        let into = slot.number as usize * self.width;
+        let from = from.number as usize * self.width;
+        copy_part(self.cells.as_mut_slice(), into, from, count);
     }
 }
 
