@@ -1,4 +1,4 @@
-use Rattle.std.proofs.Common.{refl, sym, arith}
+use Rattle.std.proofs.Common.{refl, arith}
 use Rattle.agg_laws.specs.declared.states.AggState.TheVariants.{Count}
 use Rattle.state_pool.specs.Kept.{part_of}
 use Rattle.state_pool.proofs.PartSteps as steps

@@ -1,5 +1,5 @@
 use Rattle.std.proofs.Common.{get_or, [], sym, ap, subst, ◌∙◌}
-use Rattle.state_pool.specs.Pool.{Pool, TakesWith, kinds_at, states_at}
+use Rattle.state_pool.specs.Pool.{TakesWith, kinds_at, states_at}
 use Rattle.state_pool.proofs.HeldLemmas.{taken_out, slot_still_out, states_beside, taken_with}
 use Rattle.state_pool.proofs.pool.SlotPool.take_copy.Goals as goal
 
