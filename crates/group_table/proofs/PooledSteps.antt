@@ -146,6 +146,7 @@ module _ (t : PooledTable) (old new : Pool) (table : IsTableIn t old) (key : Lis
         merges = subst (Merges key states t') seen done.1;
         stays = record {
           owner = refl;
+          extends = frames.extends_same t;
           table = record { holds = holds_still; is_table = subst IsTable seen done.0 };
           keeps = subst (λ o. KeepsOthers o old new) own.owned (frames.keeps_changed slot.owner _ old new writes);
         };
@@ -241,6 +242,7 @@ module _ (t u : PooledTable) (old mid new : Pool) (holds : HoldsAll t old) (key 
   pub stays_more : IsTable (in_pool more new) → StaysIn t old u new
   stays_more table = record {
     owner = ap (λ (u : PooledTable). u.owner) starts.table;
+    extends = ((key, slot) ∷ [], starts.table);
     table = subst (λ (u : PooledTable). IsTableIn u new) (sym starts.table) (record { holds = holds_more; is_table = table });
     keeps = keeps_more;
   }
