@@ -61,11 +61,11 @@ numbers_of : (P : ℕ → Type 0) (es : Entries) → AllByRecursion P (numbers e
 numbers_of P [] h = tt
 numbers_of P (e ∷ es) h = (h.0, numbers_of P es h.1)
 
-slots_in : (P : Place → Type 0) (es : Entries) → AllByRecursion (λ e. P e.1) es → AllByRecursion P (map (λ e. e.1) es)
+pub slots_in : (P : Place → Type 0) (es : Entries) → AllByRecursion (λ e. P e.1) es → AllByRecursion P (map (λ e. e.1) es)
 slots_in P [] h = tt
 slots_in P (e ∷ es) h = (h.0, slots_in P es h.1)
 
-same_numbers : (es : Entries) → map (λ (s : Place). s.number) (map (λ e. e.1) es) ≡ numbers es
+pub same_numbers : (es : Entries) → map (λ (s : Place). s.number) (map (λ e. e.1) es) ≡ numbers es
 same_numbers [] = refl
 same_numbers (e ∷ es) = ap (λ l. e.1.number ∷ l) (same_numbers es)
 

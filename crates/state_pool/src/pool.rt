@@ -222,8 +222,7 @@ impl SlotPool {
         requires out { IsOut self.old slot.now }
         requires from { IsOut self.old from.now }
         requires apart { from.now.owner ≢ slot.now.owner }
-        requires kinds { kinds_of (states_at self.old slot.now)
-            ≡ kinds_of (states_at self.old from.now) }
+        requires kinds { kinds_at self.old slot.now.owner ≡ kinds_at self.old from.now.owner }
         ensures { Writes slot.now (states_at self.old from.now) self.old self.new }
     {
         let count = self.owners[slot.owner as usize].kinds.len();
