@@ -62,11 +62,11 @@ numbers_of : (P : ℕ → Type 0) (es : Entries) → AllByRecursion P (numbers e
 numbers_of P [] h = tt
 numbers_of P (e ∷ es) h = (h.0, numbers_of P es h.1)
 
-slots_in : (P : Place → Type 0) (es : Entries) → AllByRecursion (λ e. P e.1) es → AllByRecursion P (map (λ e. e.1) es)
+pub slots_in : (P : Place → Type 0) (es : Entries) → AllByRecursion (λ e. P e.1) es → AllByRecursion P (map (λ e. e.1) es)
 slots_in P [] h = tt
 slots_in P (e ∷ es) h = (h.0, slots_in P es h.1)
 
-same_numbers : (es : Entries) → map (λ (s : Place). s.number) (map (λ e. e.1) es) ≡ numbers es
+pub same_numbers : (es : Entries) → map (λ (s : Place). s.number) (map (λ e. e.1) es) ≡ numbers es
 same_numbers [] = refl
 same_numbers (e ∷ es) = ap (λ l. e.1.number ∷ l) (same_numbers es)
 
@@ -147,6 +147,7 @@ module _ (t : PooledTable) (old new : Pool) (table : IsTableIn t old) (key : Lis
         merges = subst (Merges key states t') seen done.1;
         stays = record {
           owner = refl;
+          extends = frames.extends_same t;
           table = record { holds = holds_still; is_table = subst IsTable seen done.0 };
           keeps = subst (λ o. KeepsOthers o old new) own.owned (frames.keeps_changed slot.owner _ old new writes);
         };
@@ -242,6 +243,7 @@ module _ (t u : PooledTable) (old mid new : Pool) (holds : HoldsAll t old) (key 
   pub stays_more : IsTable (in_pool more new) → StaysIn t old u new
   stays_more table = record {
     owner = ap (λ (u : PooledTable). u.owner) starts.table;
+    extends = ((key, slot) ∷ [], starts.table);
     table = subst (λ (u : PooledTable). IsTableIn u new) (sym starts.table) (record { holds = holds_more; is_table = table });
     keeps = keeps_more;
   }

@@ -1,5 +1,5 @@
 -- The slots of an owner once one of them is taken, written or given back: which are out, and what states they have.
-use Rattle.std.proofs.Common.{◌≡◌, ◌≢◌, ◌∙◌, ℕ, ◌+◌, ◌-◌, Bool, true, false, cond, nat_eq, List, [], ◌∷◌, ◌++◌, map, get_or, Option, Some, None, refl, sym, ap, subst, arith, is_some, unwrap_or}
+use Rattle.std.proofs.Common.{◌≡◌, ◌≢◌, ◌∙◌, ℕ, ◌+◌, ◌-◌, Bool, true, false, cond, nat_eq, List, [], ◌∷◌, ◌++◌, map, get_or, Option, Some, None, refl, sym, ap, subst, arith, is_some, unwrap_or, append-nil, append_assoc}
 use borrow.Author.Tests.{eqb-true, eqb-false}
 use Rattle.std.proofs.lemmas.Bool.{false≢true}
 use Rattle.std.specs.FinMap as finite
@@ -10,7 +10,8 @@ use Rattle.agg_laws.specs.declared.states.AggState.{AggState}
 use Rattle.agg_laws.specs.Rows.{units_of}
 use Rattle.state_pool.specs.Pool.{Pool, Place, Slots, Changes, Writes, Takes, GivesBack, IsOut, held, kinds_at, quota_of, slots_of, states_at}
 use Rattle.state_pool.proofs.SlotLemmas.{put_here, put_there, gone_there, same_slots}
-use Rattle.group_table.specs.Pooled.{PooledTable, IsSlotOf, IsTableIn, KeepsOthers, StaysIn}
+use Rattle.values.specs.declared.value.Value.{Value}
+use Rattle.group_table.specs.Pooled.{PooledTable, IsSlotOf, IsTableIn, KeepsOthers, StaysIn, Extends, with_slots}
 
 -- ---- numbers
 
@@ -149,12 +150,19 @@ taken_apart owner old n none (s ∷ slots) each = (apart_of n s.number differs, 
 
 -- ---- a table that stays one
 
+pub extends_same : (t : PooledTable) → Extends t t
+extends_same t = ([], sym (ap (with_slots t) (append-nil t.slots)))
+
+pub extends_both : (t u v : PooledTable) → Extends t u → Extends u v → Extends t v
+extends_both t u v (one, a) (two, b) = (one ++ two, b ∙ ap (λ (w : PooledTable). with_slots w (w.slots ++ two)) a ∙ ap (with_slots t) (append_assoc t.slots one two))
+
 pub stays_same : (t : PooledTable) (pool : Pool) → IsTableIn t pool → StaysIn t pool t pool
-stays_same t pool table = record { owner = refl; table = table; keeps = keeps_same t.owner pool }
+stays_same t pool table = record { owner = refl; extends = extends_same t; table = table; keeps = keeps_same t.owner pool }
 
 pub stays_both : (t u v : PooledTable) (old mid new : Pool) → StaysIn t old u mid → StaysIn u mid v new → StaysIn t old v new
 stays_both t u v old mid new a b = record {
   owner = b.owner ∙ a.owner;
+  extends = extends_both t u v a.extends b.extends;
   table = b.table;
   keeps = keeps_both t.owner old mid new a.keeps (subst (λ o. KeepsOthers o mid new) a.owner b.keeps);
 }

@@ -58,7 +58,9 @@ impl GroupTable {
             let Some(slot) = pool.take_copy(keeper, own) else {
                 unreachable!();
             };
-            saved.slots.push(slot)?;
+            if let Err(_) = saved.slots.push(slot) {
+                unreachable!();
+            }
         }
         Ok(saved)
     }
@@ -70,7 +72,6 @@ impl GroupTable {
         requires beside { IsHeldBeside self.old pool.old saved }
         requires fewer { length saved.slots ≤ length self.old.slots }
         ensures restored { (was : PooledTable) (before : Pool) → Extends was self.old
-            → kinds_at before was.owner ≡ kinds_at pool.old self.old.owner
             → HasSaved was before pool.old saved
             → (self.new ≡ was) × (slots_of pool.new self.old.owner ≡ slots_of before was.owner) }
         ensures none { held pool.new saved.owner ≡ 0 }
