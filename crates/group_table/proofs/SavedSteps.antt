@@ -309,14 +309,14 @@ same_held owner one two ss a b same = same_at (numbers ss) (slots_of one owner) 
 -- ---- the groups put back
 
 -- lists of the same length at the front of the same list
-same_front : {X : Type 0} (xs ys as bs : List X) → xs ++ as ≡ ys ++ bs → length xs ≡ length ys → xs ≡ ys
-same_front [] [] as bs e len = refl
-same_front [] (y ∷ ys) as bs e len = absurd (omega (arith, len))
-same_front (x ∷ xs) [] as bs e len = absurd (omega (arith, len))
-same_front (x ∷ xs) (y ∷ ys) as bs e len =
+same_front : {X : Type 0} (xs ys us vs : List X) → xs ++ us ≡ ys ++ vs → length xs ≡ length ys → xs ≡ ys
+same_front [] [] us vs e len = refl
+same_front [] (y ∷ ys) us vs e len = absurd (omega (arith, len))
+same_front (x ∷ xs) [] us vs e len = absurd (omega (arith, len))
+same_front (x ∷ xs) (y ∷ ys) us vs e len =
     let head : x ≡ y = cc in
-    let tail : xs ++ as ≡ ys ++ bs = cc in
-    let less : length xs ≡ length ys = omega (arith, len) in λ i. head i ∷ same_front xs ys as bs tail less i
+    let tail : xs ++ us ≡ ys ++ vs = cc in
+    let less : length xs ≡ length ys = omega (arith, len) in λ i. head i ∷ same_front xs ys us vs tail less i
 
 drop_places : (P : Place → Type 0) (n : ℕ) (ss : List Place) → AllByRecursion P ss → AllByRecursion P (drop n ss)
 drop_places P zero ss h = h
@@ -369,6 +369,10 @@ module _ (t : PooledTable) (before pool : Pool) (es : Entries) (key : List Value
     front = ((key, slot) ∷ short.front.0, short.front.1 ∙ append_assoc es ((key, slot) ∷ []) short.front.0);
   }
 
+pub none_of : (ss : List Place) → length ss ≡ 0 → ss ≡ []
+none_of [] len = refl
+none_of (s ∷ ss) len = absurd (omega (arith, len))
+
 -- the last of the groups have the states that were saved, and the slots that these were in are given back
 pub record PutBack (t : PooledTable) (before : Pool) (saved : SavedSlots) (es : Entries) (pool : Pool) (rest : List Place) : Type 0 where
   pub own : AreHeld pool t.owner (places es)
@@ -401,17 +405,17 @@ module _ (t : PooledTable) (before : Pool) (saved : SavedSlots) (beside : IsHeld
     next : drop (length rest) (places es) ≡ own ∷ drop (length rest + 1) (places es)
     next = drop_next (places es) (length rest) own (get_place es (length rest) key own is)
 
-    its : AllByRecursion (IsSlotOf pool t.owner) (own ∷ drop (length rest + 1) (places es))
-    its = subst (AllByRecursion (IsSlotOf pool t.owner)) next (drop_places (IsSlotOf pool t.owner) (length rest) (places es) put.own.each)
+    onward : AllByRecursion (IsSlotOf pool t.owner) (own ∷ drop (length rest + 1) (places es))
+    onward = subst (AllByRecursion (IsSlotOf pool t.owner)) next (drop_places (IsSlotOf pool t.owner) (length rest) (places es) put.own.each)
 
     pub own_out : IsOut pool own
-    own_out = its.0.out
+    own_out = onward.0.out
 
     pub both_apart : from.owner ≢ own.owner
-    both_apart same = beside.apart_from (sym from_slot.owned ∙ same ∙ its.0.owned)
+    both_apart same = beside.apart_from (sym from_slot.owned ∙ same ∙ onward.0.owned)
 
     pub both_kinds : kinds_at pool own.owner ≡ kinds_at pool from.owner
-    both_kinds = ap (kinds_at pool) its.0.owned ∙ ap (λ kss. get_or kss t.owner []) put.keeps.kinds ∙ sym beside.kinds
+    both_kinds = ap (kinds_at pool) onward.0.owned ∙ ap (λ kss. get_or kss t.owner []) put.keeps.kinds ∙ sym beside.kinds
         ∙ sym (ap (λ kss. get_or kss saved.owner []) put.keeps.kinds) ∙ ap (kinds_at pool) (sym from_slot.owned)
 
     away : AllByRecursion (λ m. nat_eq own.number m ≡ false) (numbers (drop (length rest + 1) (places es)))
@@ -419,7 +423,7 @@ module _ (t : PooledTable) (before : Pool) (saved : SavedSlots) (beside : IsHeld
 
     module _ (mid : Pool) (writes : Writes own (states_at pool from) pool mid) where
       saved_there : slots_of mid saved.owner ≡ slots_of pool saved.owner
-      saved_there = writes.others saved.owner (λ same. beside.apart_from (same ∙ its.0.owned))
+      saved_there = writes.others saved.owner (λ same. beside.apart_from (same ∙ onward.0.owned))
 
       kept_mid : AreHeld mid saved.owner (rest ++ from ∷ [])
       kept_mid = held_still saved.owner pool mid saved_there (rest ++ from ∷ []) put.kept
@@ -428,15 +432,15 @@ module _ (t : PooledTable) (before : Pool) (saved : SavedSlots) (beside : IsHeld
       from_still = (slot_still saved.owner pool mid saved_there from from_slot).out
 
       own_mid : AreHeld mid t.owner (places es)
-      own_mid = written_held own (states_at pool from) pool mid writes t.owner (places es) its.0 put.own
+      own_mid = written_held own (states_at pool from) pool mid writes t.owner (places es) onward.0 put.own
 
       states_mid : map (states_at mid) rest ++ map (states_at mid) (drop (length rest) (places es)) ≡ map (states_at before) saved.slots
       states_mid =
           (λ i. states_still saved.owner pool mid saved_there rest (init_place (IsSlotOf pool saved.owner) rest from put.kept.each).0 i ++ map (states_at mid) (next i))
           ∙ (λ i. map (states_at pool) rest ++ (frames.states_here own (states_at pool from) pool mid writes i
-          ∷ written_others own (states_at pool from) pool mid writes t.owner its.0.owned (drop (length rest + 1) (places es)) its.1 away i))
+          ∷ written_others own (states_at pool from) pool mid writes t.owner onward.0.owned (drop (length rest + 1) (places es)) onward.1 away i))
           ∙ sym (append_assoc (map (states_at pool) rest) (states_at pool from ∷ []) (map (states_at pool) (drop (length rest + 1) (places es))))
-          ∙ (λ i. map-append (states_at pool) rest (from ∷ []) (~ i) ++ map (states_at pool) (drop (length-append rest (from ∷ []) (~ i)) (places es)))
+          ∙ sym (λ i. map-append (states_at pool) rest (from ∷ []) i ++ map (states_at pool) (drop (length-append rest (from ∷ []) i) (places es)))
           ∙ put.states
 
       pub put_next : (new : Pool) → GivesBack from mid new → PutBack t before saved es new rest
@@ -450,7 +454,7 @@ module _ (t : PooledTable) (before : Pool) (saved : SavedSlots) (beside : IsHeld
               quotas = keeps.quotas ∙ writes.quotas ∙ put.keeps.quotas;
               kinds = keeps.kinds ∙ writes.kinds ∙ put.keeps.kinds;
               width = keeps.width ∙ writes.width ∙ put.keeps.width;
-              others = λ other one two. keeps.others other two ∙ writes.others other (λ is. one (is ∙ its.0.owned)) ∙ put.keeps.others other one two;
+              others = λ other one two. keeps.others other two ∙ writes.others other (λ is. one (is ∙ onward.0.owned)) ∙ put.keeps.others other one two;
             };
             states = (λ i. given_states saved.owner rest from mid kept_mid new gives i
                 ++ states_still t.owner mid new same (drop (length rest) (places es)) (drop_places (IsSlotOf mid t.owner) (length rest) (places es) own_mid.each) i)
