@@ -20,6 +20,7 @@ use Rattle.group_table.specs.Kept.{groups_in, key_eq, HaveValues, IsGroup, IsTab
 use Rattle.group_table.specs.Pooled.{PooledTable, group_in, in_pool, IsSlotOf, HoldsAll, IsTableIn, IsNewIn, StaysIn, KeepsOthers, MergesIn, Starts, Finds, slot_at, with_slots}
 use Rattle.group_table.proofs.KeptLemmas.{key_equiv, same_key, get_lookup, len_once}
 use Rattle.group_table.proofs.KeptSteps as steps
+use Rattle.state_pool.proofs.HeldLemmas.{taken_writes, filled}
 use Rattle.group_table.proofs.SlotFrames as frames
 
 -- ---- the groups of slots
@@ -290,12 +291,12 @@ module _ (t u : PooledTable) (old mid : Pool) (table : IsTableIn t old) (key : L
 
   ready_started : Starts key slot t old u mid → Ready
   ready_started s =
-      let units : states_at mid slot ≡ units_of (kinds_at old t.owner) = frames.states_here slot (units_of (kinds_at old t.owner)) old mid (frames.taken_writes t.owner slot old mid s.takes) in
+      let units : states_at mid slot ≡ units_of (kinds_at old t.owner) = frames.states_here slot (units_of (kinds_at old t.owner)) old mid (taken_writes t.owner slot old mid s.takes) in
       let none : IsNewKey (in_pool t old) key = get_lookup (map (group_in old) t.slots) key ∙ group_lookup old key t.slots ∙ ap (option_map (states_at old)) s.absent in record {
-        out = (frames.own_here slot (units_of (kinds_at old t.owner)) old mid (frames.taken_writes t.owner slot old mid s.takes) t.owner s.takes.owner_is).out;
+        out = (frames.own_here slot (units_of (kinds_at old t.owner)) old mid (taken_writes t.owner slot old mid s.takes) t.owner s.takes.owner_is).out;
         owner = s.takes.owner_is;
         kinds = ap kinds_of units ∙ steps.kinds_units (kinds_at old t.owner);
-        kinds_kept = frames.same_kinds slot.owner _ old mid (frames.taken_writes t.owner slot old mid s.takes) t.owner;
+        kinds_kept = frames.same_kinds slot.owner _ old mid (taken_writes t.owner slot old mid s.takes) t.owner;
         room = subst (λ s. RowFits s most_values) (steps.new_with (in_pool t old) key states none
             ∙ sym (units_merged (kinds_at old t.owner) states ks) ∙ ap (λ us. merged_rows us states) (sym units)) fits;
       }
@@ -318,8 +319,8 @@ module _ (t u : PooledTable) (old mid : Pool) (table : IsTableIn t old) (key : L
           subst (λ (u : PooledTable). MergesIn key states t old u new) (sym h.1)
           (merged_found t old new table key states (merged_rows (states_at old slot) states) slot h.0 same ks values fits refl)
       by (inr s) =
-          let units : states_at mid slot ≡ units_of (kinds_at old t.owner) = frames.states_here slot (units_of (kinds_at old t.owner)) old mid (frames.taken_writes t.owner slot old mid s.takes) in
-          let whole = frames.filled t.owner slot old mid s.takes (merged_rows (states_at mid slot) states) new writes in
+          let units : states_at mid slot ≡ units_of (kinds_at old t.owner) = frames.states_here slot (units_of (kinds_at old t.owner)) old mid (taken_writes t.owner slot old mid s.takes) in
+          let whole = filled t.owner slot old mid s.takes (merged_rows (states_at mid slot) states) new writes in
           merged_more t u old mid new table.holds key states (merged_rows (states_at mid slot) states) slot s whole table.is_table long ks values fits
           (ap (λ us. merged_rows us states) units ∙ units_merged (kinds_at old t.owner) states ks)
 
@@ -442,7 +443,7 @@ module _ (q : BoundQuery) (owner : ℕ) (pool : Pool) (t : PooledTable) (known :
   pub new_whole : nat_eq (length q.groups) 0 ≡ true → (u : PooledTable) (mid : Pool) (key : List Value) (slot : Place) → key ≡ []
       → Starts key slot t pool u mid → IsNewIn q owner pool mid u
   new_whole e u mid key slot k s =
-      let whole = frames.taken_writes t.owner slot pool mid s.takes in
+      let whole = taken_writes t.owner slot pool mid s.takes in
       let units = units_of (kinds_at pool t.owner) in
       let group = steps.empty_group t.columns (kinds_at pool t.owner) key units (steps.no_columns t.columns q.groups columns e) k refl in
       let more = table_more t u pool mid mid holds_none key units units slot s whole none_kept group refl in

@@ -97,36 +97,6 @@ module _ (slot : Place) (w : List AggState) (old new : Pool) (writes : Writes sl
   held_more owner e none = subst (λ o. held new o ≡ held old o + 1) e
       (held_with ∙ ap (λ b. cond b (held old slot.owner) (held old slot.owner + 1)) (ap is_some none))
 
--- ---- a slot that was taken and then written
-
-module _ (owner : ℕ) (slot : Place) (old mid : Pool) (takes : Takes owner slot old mid) where
-  -- to take a slot is to write it, where nobody has it
-  taken_owner : (other : ℕ) → other ≡ owner → slots_of mid other ≡ finite.insert (slots_of old other) slot.number (units_of (kinds_at old owner))
-  taken_owner other e = subst (λ o. slots_of mid o ≡ finite.insert (slots_of old o) slot.number (units_of (kinds_at old owner))) (sym e) takes.changes.own
-
-  pub taken_writes : Writes slot (units_of (kinds_at old owner)) old mid
-  taken_writes = record {
-    quotas = takes.changes.quotas;
-    kinds = takes.changes.kinds;
-    width = takes.changes.width;
-    own = taken_owner slot.owner takes.owner_is;
-    others = λ other ne. takes.changes.others other (λ is. ne (is ∙ sym takes.owner_is));
-  }
-
-  pub filled : (w : List AggState) (new : Pool) → Writes slot w mid new → Writes slot w old new
-  filled w new writes = record {
-    quotas = writes.quotas ∙ takes.changes.quotas;
-    kinds = writes.kinds ∙ takes.changes.kinds;
-    width = writes.width ∙ takes.changes.width;
-    own = writes.own ∙ ap (λ (m : Slots). finite.insert m slot.number w) taken_writes.own ∙ again (slots_of old slot.owner) (units_of (kinds_at old owner));
-    others = λ other ne. writes.others other ne ∙ taken_writes.others other ne;
-  }
-    where
-      again : (m : Slots) (u : List AggState) → finite.insert (finite.insert m slot.number u) slot.number w ≡ finite.insert m slot.number w
-      again m u = same_slots (finite.insert (finite.insert m slot.number u) slot.number w) (finite.insert m slot.number w) slot.number
-          (put_here (finite.insert m slot.number u) slot.number w ∙ sym (put_here m slot.number w))
-          (λ q ne. put_there (finite.insert m slot.number u) slot.number w q ne ∙ put_there m slot.number u q ne ∙ sym (put_there m slot.number w q ne))
-
 -- ---- a slot given back
 
 module _ (slot : Place) (old new : Pool) (gives : GivesBack slot old new) where
