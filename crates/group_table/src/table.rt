@@ -85,6 +85,18 @@ impl GroupTable {
         Ok(table)
     }
 
+    /// A table that has no groups and may have none, to stand in the place of one that is lent.
+    pub fn none(alloc: Global) -> GroupTable
+        ensures { (result.most ≡ 0) × (result.slots ≡ []) }
+    {
+        GroupTable {
+            columns: 0,
+            owner: 0,
+            most: 0,
+            slots: IndexMap::new(alloc),
+        }
+    }
+
     /// A group without values, of a new key. There is room for it.
     fn start(&mut self, alloc: Global, pool: &mut SlotPool, key: &Row) -> Result<(), NoMemory>
         requires holds { HoldsAll self.old pool.old }
