@@ -305,3 +305,178 @@ same_held owner one two ss a b same = same_at (numbers ss) (slots_of one owner) 
         let head : states_at one s ≡ states_at two s = cc in
         let tail : map (states_at one) ss ≡ map (states_at two) ss = cc in
         (its_get one s a.0 ∙ ap Some head ∙ sym (its_get two s b.0), agree ss a.1 b.1 tail)
+
+-- ---- the groups put back
+
+-- lists of the same length at the front of the same list
+same_front : {X : Type 0} (xs ys us vs : List X) → xs ++ us ≡ ys ++ vs → length xs ≡ length ys → xs ≡ ys
+same_front [] [] us vs e len = refl
+same_front [] (y ∷ ys) us vs e len = absurd (omega (arith, len))
+same_front (x ∷ xs) [] us vs e len = absurd (omega (arith, len))
+same_front (x ∷ xs) (y ∷ ys) us vs e len =
+    let head : x ≡ y = cc in
+    let tail : xs ++ us ≡ ys ++ vs = cc in
+    let less : length xs ≡ length ys = omega (arith, len) in λ i. head i ∷ same_front xs ys us vs tail less i
+
+drop_places : (P : Place → Type 0) (n : ℕ) (ss : List Place) → AllByRecursion P ss → AllByRecursion P (drop n ss)
+drop_places P zero ss h = h
+drop_places P (suc n) [] h = tt
+drop_places P (suc n) (s ∷ ss) h = drop_places P n ss h.1
+
+drop_apart : (n : ℕ) (ss : List Place) → IsDistinct nat_eq (numbers ss) → IsDistinct nat_eq (numbers (drop n ss))
+unfolding IsDistinct
+drop_apart zero ss d = d
+drop_apart (suc n) [] d = tt
+drop_apart (suc n) (s ∷ ss) d = drop_apart n ss d.1
+
+head_apart : (s : Place) (ss : List Place) → IsDistinct nat_eq (numbers (s ∷ ss)) → AllByRecursion (λ m. nat_eq s.number m ≡ false) (numbers ss)
+unfolding IsDistinct
+head_apart s ss d = d.0
+
+get_place : (es : Entries) (at : ℕ) (key : List Value) (own : Place) → Some (key, own) ≡ slice_get es at → Some own ≡ slice_get (places es) at
+get_place [] at key own is = absurd (none_some (sym is))
+get_place (e ∷ es) zero key own is = let same : (key, own) ≡ e = cc in ap (λ (e : List Value × Place). Some e.1) same
+get_place (e ∷ es) (suc at) key own is = get_place es at key own is
+
+places_push : (es : Entries) (key : List Value) (slot : Place) → places (es ++ (key, slot) ∷ []) ≡ places es ++ slot ∷ []
+places_push [] key slot = refl
+places_push (e ∷ es) key slot = ap (λ l. e.1 ∷ l) (places_push es key slot)
+
+-- entries from the last one on are gone, and their slots given back
+pub record Shortened (t : PooledTable) (before : Pool) (pool : Pool) (es : Entries) : Type 0 where
+  pub held_are : AreHeld pool t.owner (places es)
+  pub keeps : KeepsOthers t.owner before pool
+  pub front : (more : Entries) × (t.slots ≡ es ++ more)
+
+pub shortened_none : (t : PooledTable) (before : Pool) → HoldsAll t before → Shortened t before before t.slots
+shortened_none t before holds = record {
+  held_are = table_held t before holds;
+  keeps = frames.keeps_same t.owner before;
+  front = ([], sym (append-nil t.slots));
+}
+
+module _ (t : PooledTable) (before pool : Pool) (es : Entries) (key : List Value) (slot : Place) (short : Shortened t before pool (es ++ (key, slot) ∷ [])) where
+  ends : AreHeld pool t.owner (places es ++ slot ∷ [])
+  ends = subst (AreHeld pool t.owner) (places_push es key slot) short.held_are
+
+  pub newest_out : IsOut pool slot
+  newest_out = (last_slot t.owner (places es) slot pool ends).out
+
+  pub shortened_next : (new : Pool) → GivesBack slot pool new → Shortened t before new es
+  shortened_next new gives = record {
+    held_are = given_held t.owner (places es) slot pool ends new gives;
+    keeps = frames.keeps_both t.owner before pool new short.keeps (given_keeps t.owner (places es) slot pool ends new gives);
+    front = ((key, slot) ∷ short.front.0, short.front.1 ∙ append_assoc es ((key, slot) ∷ []) short.front.0);
+  }
+
+pub none_of : (ss : List Place) → length ss ≡ 0 → ss ≡ []
+none_of [] len = refl
+none_of (s ∷ ss) len = absurd (omega (arith, len))
+
+-- the last of the groups have the states that were saved, and the slots that these were in are given back
+pub record PutBack (t : PooledTable) (before : Pool) (saved : SavedSlots) (es : Entries) (pool : Pool) (rest : List Place) : Type 0 where
+  pub own : AreHeld pool t.owner (places es)
+  pub kept : AreHeld pool saved.owner rest
+  pub keeps : KeepsBut t.owner saved.owner before pool
+  pub states : map (states_at pool) rest ++ map (states_at pool) (drop (length rest) (places es)) ≡ map (states_at before) saved.slots
+
+module _ (t : PooledTable) (before : Pool) (saved : SavedSlots) (beside : IsHeldBeside t before saved) (es : Entries) where
+  pub put_none : (pool : Pool) → Shortened t before pool es → length es ≡ length saved.slots → PutBack t before saved es pool saved.slots
+  put_none pool short len =
+      let same = short.keeps.others saved.owner beside.apart_from in
+      let held = saved_held t before saved beside in
+      let end : length (places es) ≤ length saved.slots = omega (arith, len, length-map es (λ (e : List Value × Place). e.1)) in
+      record {
+        own = short.held_are;
+        kept = held_still saved.owner before pool same saved.slots held;
+        keeps = record { quotas = short.keeps.quotas; kinds = short.keeps.kinds; width = short.keeps.width; others = λ other one two. short.keeps.others other one };
+        states = ap (λ l. map (states_at pool) saved.slots ++ map (states_at pool) l) (drop_all (places es) (length saved.slots) end)
+            ∙ append-nil (map (states_at pool) saved.slots) ∙ states_still saved.owner before pool same saved.slots held.each;
+      }
+
+  module _ (pool : Pool) (rest : List Place) (from : Place) (put : PutBack t before saved es pool (rest ++ from ∷ []))
+      (key : List Value) (own : Place) (is : Some (key, own) ≡ slice_get es (length rest)) where
+    from_slot : IsSlotOf pool saved.owner from
+    from_slot = last_slot saved.owner rest from pool put.kept
+
+    pub from_out : IsOut pool from
+    from_out = from_slot.out
+
+    next : drop (length rest) (places es) ≡ own ∷ drop (length rest + 1) (places es)
+    next = drop_next (places es) (length rest) own (get_place es (length rest) key own is)
+
+    onward : AllByRecursion (IsSlotOf pool t.owner) (own ∷ drop (length rest + 1) (places es))
+    onward = subst (AllByRecursion (IsSlotOf pool t.owner)) next (drop_places (IsSlotOf pool t.owner) (length rest) (places es) put.own.each)
+
+    pub own_out : IsOut pool own
+    own_out = onward.0.out
+
+    pub both_apart : from.owner ≢ own.owner
+    both_apart same = beside.apart_from (sym from_slot.owned ∙ same ∙ onward.0.owned)
+
+    pub both_kinds : kinds_at pool own.owner ≡ kinds_at pool from.owner
+    both_kinds = ap (kinds_at pool) onward.0.owned ∙ ap (λ kss. get_or kss t.owner []) put.keeps.kinds ∙ sym beside.kinds
+        ∙ sym (ap (λ kss. get_or kss saved.owner []) put.keeps.kinds) ∙ ap (kinds_at pool) (sym from_slot.owned)
+
+    away : AllByRecursion (λ m. nat_eq own.number m ≡ false) (numbers (drop (length rest + 1) (places es)))
+    away = head_apart own (drop (length rest + 1) (places es)) (subst (λ (ss : List Place). IsDistinct nat_eq (numbers ss)) next (drop_apart (length rest) (places es) put.own.apart))
+
+    module _ (mid : Pool) (writes : Writes own (states_at pool from) pool mid) where
+      saved_there : slots_of mid saved.owner ≡ slots_of pool saved.owner
+      saved_there = writes.others saved.owner (λ same. beside.apart_from (same ∙ onward.0.owned))
+
+      kept_mid : AreHeld mid saved.owner (rest ++ from ∷ [])
+      kept_mid = held_still saved.owner pool mid saved_there (rest ++ from ∷ []) put.kept
+
+      pub from_still : IsOut mid from
+      from_still = (slot_still saved.owner pool mid saved_there from from_slot).out
+
+      own_mid : AreHeld mid t.owner (places es)
+      own_mid = written_held own (states_at pool from) pool mid writes t.owner (places es) onward.0 put.own
+
+      states_mid : map (states_at mid) rest ++ map (states_at mid) (drop (length rest) (places es)) ≡ map (states_at before) saved.slots
+      states_mid =
+          (λ i. states_still saved.owner pool mid saved_there rest (init_place (IsSlotOf pool saved.owner) rest from put.kept.each).0 i ++ map (states_at mid) (next i))
+          ∙ (λ i. map (states_at pool) rest ++ (frames.states_here own (states_at pool from) pool mid writes i
+          ∷ written_others own (states_at pool from) pool mid writes t.owner onward.0.owned (drop (length rest + 1) (places es)) onward.1 away i))
+          ∙ sym (append_assoc (map (states_at pool) rest) (states_at pool from ∷ []) (map (states_at pool) (drop (length rest + 1) (places es))))
+          ∙ sym (λ i. map-append (states_at pool) rest (from ∷ []) i ++ map (states_at pool) (drop (length-append rest (from ∷ []) i) (places es)))
+          ∙ put.states
+
+      pub put_next : (new : Pool) → GivesBack from mid new → PutBack t before saved es new rest
+      put_next new gives =
+          let keeps = given_keeps saved.owner rest from mid kept_mid new gives in
+          let same : slots_of new t.owner ≡ slots_of mid t.owner = keeps.others t.owner (λ is. beside.apart_from (sym is)) in
+          record {
+            own = held_still t.owner mid new same (places es) own_mid;
+            kept = given_held saved.owner rest from mid kept_mid new gives;
+            keeps = record {
+              quotas = keeps.quotas ∙ writes.quotas ∙ put.keeps.quotas;
+              kinds = keeps.kinds ∙ writes.kinds ∙ put.keeps.kinds;
+              width = keeps.width ∙ writes.width ∙ put.keeps.width;
+              others = λ other one two. keeps.others other two ∙ writes.others other (λ is. one (is ∙ onward.0.owned)) ∙ put.keeps.others other one two;
+            };
+            states = (λ i. given_states saved.owner rest from mid kept_mid new gives i
+                ++ states_still t.owner mid new same (drop (length rest) (places es)) (drop_places (IsSlotOf mid t.owner) (length rest) (places es) own_mid.each) i)
+                ∙ states_mid;
+          }
+
+  module _ (pool : Pool) (put : PutBack t before saved es pool []) (short : (more : Entries) × (t.slots ≡ es ++ more)) (len : length es ≡ length saved.slots)
+      (was : PooledTable) (first : Pool) (extends : Extends was t) (has : HasSaved was first before saved) where
+    same_count : length es ≡ length was.slots
+    same_count = len ∙ sym (length-map saved.slots (states_at before)) ∙ ap length has.states ∙ length-map was.slots (λ (e : List Value × Place). states_at first e.1)
+
+    was_slots : es ≡ was.slots
+    was_slots = same_front es was.slots short.0 extends.0 (sym short.1 ∙ ap (λ (u : PooledTable). u.slots) extends.1) same_count
+
+    pub table_back : with_slots t es ≡ was
+    table_back = ap (λ (u : PooledTable). with_slots u es) extends.1 ∙ ap (with_slots was) was_slots
+
+    same_owner : t.owner ≡ was.owner
+    same_owner = ap (λ (u : PooledTable). u.owner) extends.1
+
+    pub slots_back : slots_of pool t.owner ≡ slots_of first was.owner
+    slots_back = ap (slots_of pool) same_owner ∙ same_held was.owner pool first (places was.slots)
+        (subst (λ o. AreHeld pool o (places was.slots)) same_owner (subst (λ (es : Entries). AreHeld pool t.owner (places es)) was_slots put.own))
+        (table_held was first has.table)
+        (ap (λ (es : Entries). map (states_at pool) (places es)) (sym was_slots) ∙ put.states ∙ has.states ∙ sym (states_of first was.slots))
