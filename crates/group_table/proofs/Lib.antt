@@ -7,4 +7,4 @@ mod PooledSteps
 pub mod NewKeys
 pub mod KeyPlaces
 mod AbsorbSteps
-mod SavedSteps
+pub mod SavedSteps
