@@ -14,7 +14,8 @@ use Rattle.coded_columns.specs.declared.coded.SegmentColumns.{SegmentColumns}
 
 -- it holds of the key of each row that has these ids in the group columns
 abbrev pub OfKey : SegmentColumns → List ℕ → List ℕ → (List Value → Type 0) → Type 0
-OfKey segment columns ids holds = (row : ℕ) → row < segment.count → AreIdsAt segment columns row ids
+OfKey segment columns ids holds = (row : ℕ) → row < segment.count
+    → AreIdsAt segment columns row ids
     → holds (key_of columns (row_of (table_of segment).columns row))
 
 -- it holds of the value of each row that has this id in a field
@@ -30,4 +31,5 @@ pub record CanMergeIds (segment : SegmentColumns) (columns ids : List ℕ) (stat
   pub as_many : groups.columns ≡ length columns
   pub kinds : kinds_of states ≡ groups.kinds
   pub values : 0 < groups.columns → HaveValues states
-  pub fits : OfKey segment columns ids (λ key. RowFits (with_states (groups_in groups) key states) most_values)
+  pub fits : OfKey segment columns ids (λ key.
+      RowFits (with_states (groups_in groups) key states) most_values)

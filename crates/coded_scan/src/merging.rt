@@ -134,7 +134,15 @@ fn merge_ids(
 {
     let next = room.next;
     let alloc = room.alloc;
-    let known = match known_place(alloc, segment, columns, &room.ids, next, table, &mut room.key) {
+    let known = match known_place(
+        alloc,
+        segment,
+        columns,
+        &room.ids,
+        next,
+        table,
+        &mut room.key,
+    ) {
         Ok(known) => known,
         Err(_) => return Err(TableFault::NoMemory),
     };

@@ -1,4 +1,4 @@
-use Rattle.std.proofs.Common.{◌≡◌, ◌∙◌, ℕ, List, sym, arith}
+use Rattle.std.proofs.Common.{◌∙◌, List, sym, arith}
 use Rattle.std.proofs.lemmas.Bool.{OnTrue_at}
 use Rattle.values.specs.declared.value.Value.{Value}
 use Rattle.values.specs.Columns.{row_of}

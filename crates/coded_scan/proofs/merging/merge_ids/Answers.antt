@@ -1,4 +1,4 @@
-use Rattle.std.proofs.Common.{rules, ◌≡◌, ◌∙◌, ◌×◌, ◌+◌, ◌<◌, ◌^◌, ℕ, List, Option, MatchOption, Err, length, get_or, pos, ap, sym, subst, arith}
+use Rattle.std.proofs.Common.{rules, ◌≡◌, ◌∙◌, ◌+◌, ◌<◌, ◌^◌, ℕ, List, Option, MatchOption, Err, length, get_or, pos, ap, sym, subst, arith}
 use Rattle.std.proofs.lemmas.List.{length-map}
 use Rattle.std.specs.FinMap as finite
 use Rattle.values.specs.declared.value.Value.{Value}
@@ -107,13 +107,15 @@ returns-in_err-merge_row-clause-full c = λ bad.
     let table = c.args.table.now in
     let old : KeptGroups = in_pool table c.args.pool.now in
     let states : List AggState = c.args.room.now.states in
-    let full : c.from_residual.result ≡ Err TooManyGroups → IsNewKey old c.known_place.new.key × (finite.len (groups_in old) ≡ table.most) = search rules in
-    ((λ row lt are.
-      let own : List Value = key_of columns (row_of (table_of segment).columns row) in
-      let made : c.known_place.new.key ≡ own =
-      subst (λ (known : Option ℕ). MatchOption known (c.known_place.new.key ≡ own) (IsKeyAt table own)) c.in_default.is
-      (c.in-Ok.ensures row lt (subst (λ (l : List ℕ). AreIdsAt segment columns row l) (sym c.deref.ensures.value) are)) in
-      subst (λ (k : List Value). IsNewKey old k) made (full bad).0), (full bad).1)
+    let full : c.from_residual.result ≡ Err TooManyGroups → IsNewKey old c.known_place.new.key × (finite.len (groups_in old) ≡ table.most) = search rules in (
+      (λ row lt are.
+          let own : List Value = key_of columns (row_of (table_of segment).columns row) in
+          let made : c.known_place.new.key ≡ own =
+          subst (λ (known : Option ℕ). MatchOption known (c.known_place.new.key ≡ own) (IsKeyAt table own)) c.in_default.is
+          (c.in-Ok.ensures row lt (subst (λ (l : List ℕ). AreIdsAt segment columns row l) (sym c.deref.ensures.value) are)) in
+          subst (λ (k : List Value). IsNewKey old k) made (full bad).0),
+      (full bad).1,
+    )
 
 pub returns-then-last-clause-ok : goal.returns-then-last-clause-ok
 returns-then-last-clause-ok c = λ row lt are.

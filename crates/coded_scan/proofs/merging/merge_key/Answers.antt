@@ -9,7 +9,6 @@ use Rattle.group_table.specs.Groups.{key_of, states_of}
 use Rattle.group_table.specs.Kept.{HaveValues, KeptGroups, groups_in}
 use Rattle.std.specs.FinMap as finite
 use Rattle.coded_columns.specs.Keyed.{IsKept, size_in}
-use Rattle.coded_columns.specs.Keys.{AreIdsAt}
 use Rattle.scan_engine.specs.Places.{IsRun}
 use Rattle.scan_engine.specs.Scanned.{AddsRows}
 use Rattle.scan_engine.proofs.AddLemmas.{adds_nothing, merged_within}
