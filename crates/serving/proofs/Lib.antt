@@ -1,6 +1,5 @@
-mod GatherLemmas
+mod AddedLemmas
 mod PoolLemmas
-mod AnswerLemmas
 pub mod StandLemmas
 mod StoredLemmas
 pub mod PlaceLemmas

@@ -1,9 +1,10 @@
--- A cursor once what was gathered for it is merged into its groups.
-use Rattle.std.proofs.Common.{◌≡◌, ◌≢◌, ◌∙◌, ◌+◌, ◌*◌, ◌-◌, ◌<◌, ◌≤◌, ◌++◌, ℕ, zero, suc, true, List, [], ◌∷◌, drop, get_or, length, map, take, Option, Some, None, Result, Ok, Err, refl, sym, ap, subst, arith}
+-- A cursor once rows were added to its groups, or once they are again as they were saved.
+use Rattle.std.proofs.Common.{◌≡◌, ◌≢◌, ◌∙◌, ◌+◌, ◌*◌, ◌-◌, ◌<◌, ◌≤◌, ◌++◌, ℕ, zero, suc, Bool, true, false, nat_eq, List, [], ◌∷◌, drop, get_or, length, map, take, Option, Some, None, Result, Ok, Err, refl, sym, ap, subst, arith}
 use Rattle.std.specs.Prelude.{is_some}
 use Rattle.std.specs.FinMap as finite
+use borrow.Author.Tests.{eqb-false, eqb-true}
 use Rattle.std.specs.List.{All, AllByRecursion}
-use Rattle.std.proofs.lemmas.List.{length-drop, length-map, length-take-le}
+use Rattle.std.proofs.lemmas.List.{length-append, length-drop, length-map, length-take-le}
 use Rattle.std.proofs.lemmas.List.Elements.{All-drop, All-take}
 use Rattle.outside.specs.Files.{Files}
 use Rattle.values.specs.declared.value.Value.{Value}
@@ -11,26 +12,27 @@ use Rattle.agg_laws.specs.Numbers.{most_values}
 use Rattle.table_schema.specs.ValidTable.{IsValidTable}
 use Rattle.table_schema.specs.declared.query.BoundQuery.{BoundQuery}
 use Rattle.table_schema.specs.declared.table.Table.{Table}
-use Rattle.state_pool.specs.Pool.{Pool, kinds_at, quota_of, slots_of}
-use Rattle.agg_laws.specs.Rows.{RowFits}
-use Rattle.group_table.specs.Groups.{Group, Groups, groups_of, with_entries}
+use Rattle.state_pool.specs.Pool.{Place, Pool, kinds_at, slots_of, states_at}
+use Rattle.group_table.specs.Groups.{groups_of}
 use Rattle.group_table.specs.Kept.{IsTableOf, KeptGroups, groups_in}
-use Rattle.group_table.specs.Pooled.{AllFit, IsBeside, IsTableIn, KeepsOthers, MergesAll, PooledTable, StaysIn, in_pool}
+use Rattle.group_table.specs.Pooled.{IsTableIn, KeepsOthers, PooledTable, StaysIn, in_pool}
+use Rattle.group_table.specs.Saved.{HasSaved, IsHeldBeside, KeepsBut, SavedSlots}
 use Rattle.group_table.specs.Shape.{shape_of}
 use Rattle.scan_engine.specs.Scanned.{HaveAtMost, selected}
 use Rattle.scan_engine.proofs.AddLemmas.{at_most_more}
 use Rattle.segment_file.specs.Names.{IsSegmentName}
 use Rattle.segment_head.specs.Stored.{names_of}
 use Rattle.segment_head.specs.declared.stored.Stored.{Stored}
-use Rattle.query_executor.specs.Passes.{AreSegmentsOf, IsQueryOver}
+use Rattle.query_executor.specs.Passes.{CanBegin, IsQueryOver}
+use Rattle.query_executor.specs.Steps.{AreOverfull}
 use Rattle.cursor_serve.specs.Machine.{most_cursor_groups}
 use Rattle.cursor_serve.proofs.SoundLemmas.{all_drop}
-use Rattle.serving.specs.Answered.{AnswersRows, HasRows, IsOverfull, next_stored}
-use Rattle.serving.specs.Gathered.{HaveTooMany, IsGathered, OverRows, stored_in}
-use Rattle.serving.specs.Kept.{IsCursorIn, IsOver, IsPool, KeepsAside, gatherer}
+use Rattle.serving.specs.Added.{AddsAll, OverRows, stored_in}
+use Rattle.serving.specs.Answered.{AnswersRows, IsOverfull, IsSavedBy, next_stored}
+use Rattle.serving.specs.Kept.{IsCursorIn, IsOver, IsPool, KeepsAside, keeper}
 use Rattle.serving.specs.declared.cursor.Cursor.{Cursor}
-use Rattle.serving.proofs.AnswerLemmas.{absorbed_fit, absorbed_rows, all_fit, each_fits, more_after, over_so}
-use Rattle.serving.proofs.PoolLemmas.{same_in, still_in}
+use Rattle.serving.proofs.AddedLemmas.{added_rows, over_so, overfull_rows}
+use Rattle.serving.proofs.PoolLemmas.{aside_both, aside_first, aside_of, aside_second, same_in, slots_still, states_still, still_in}
 use Rattle.serving.proofs.StoredLemmas.{AreThere, stored_names}
 
 -- ---- the segments that come next
@@ -70,96 +72,127 @@ module _ (pool : Pool) (c : Cursor) (to : ℕ) (own : IsCursorIn pool c) (next :
     query = over.query;
   }
 
-  -- ---- the groups
+  -- ---- the groups, beside whose states nothing of the pool has changed
 
-  module _ (table : Table) (held : Option Files) (mid : Pool) (inner : PooledTable) (gathered : IsGathered c.query table held (next_stored c to) mid inner)
-      (keeps : KeepsAside gatherer gatherer pool mid) where
-    abbrev more : ℕ
-    more = length (next_stored c to) * 1048576
+  apart : c.groups.owner ≢ keeper
+  apart is = let lt = own.owner in omega (arith, lt, is)
 
-    abbrev es : List Group
-    es = (in_pool inner mid).groups
-
-    apart : c.groups.owner ≢ gatherer
-    apart is = let lt = own.owner in omega (arith, lt, is)
-
+  module _ (mid : Pool) (keeps : KeepsAside keeper keeper pool mid) where
     pub table_mid : IsTableIn c.groups mid
     table_mid = still_in c.groups pool mid keeps.quotas (keeps.kinds c.groups.owner apart apart) (keeps.slots c.groups.owner apart apart) own.table
 
     same_mid : in_pool c.groups mid ≡ in_pool c.groups pool
     same_mid = same_in c.groups pool mid keeps.quotas (keeps.kinds c.groups.owner apart apart) (keeps.slots c.groups.owner apart apart) own.table.holds
 
-    old_fits : HaveAtMost (c.answered * 1048576) (groups_in (in_pool c.groups mid))
-    old_fits = subst (λ (k : KeptGroups). HaveAtMost (c.answered * 1048576) (groups_in k)) (sym same_mid) own.fits
-
-    old_query : IsTableOf c.query (in_pool c.groups mid)
-    old_query = subst (IsTableOf c.query) (sym same_mid) own.of_query
-
-    inner_each : AllByRecursion (λ (e : Group). RowFits e.1 more) es
-    inner_each = each_fits more es gathered.table_in.is_table.once gathered.fits
-
-    pub fits_all : AllFit (groups_in (in_pool c.groups mid)) es
-    fits_all = all_fit (groups_in (in_pool c.groups mid)) es (c.answered * 1048576) more
-        (let long = next_long in let few = own.few in omega (arith, long, few, next, within)) old_fits inner_each
-
-    pub beside : IsBeside c.groups mid inner
-    beside = record {
-      table = gathered.table_in;
-      apart = λ is. apart (sym is ∙ gathered.owner);
-      columns = gathered.of_query.columns ∙ sym old_query.columns;
-      kinds = gathered.of_query.kinds ∙ sym old_query.kinds;
+    pub begins : (table : Table) → IsValidTable table → IsOver table c → CanBegin c.query table (next_stored c to) (in_pool c.groups mid)
+    begins table valid over = record {
+      over = query_over table valid over;
+      of_query = subst (IsTableOf c.query) (sym same_mid) own.of_query;
+      fits = at_most_more (groups_in (in_pool c.groups mid)) (c.answered * 1048576) (most_values - length (next_stored c to) * 1048576)
+          (let long = next_long in let few = own.few in omega (arith, long, few, next, within))
+          (subst (λ (k : KeptGroups). HaveAtMost (c.answered * 1048576) (groups_in k)) (sym same_mid) own.fits);
     }
 
-    rows_both : (done rows : List (List Value)) → HasRows pool c done → groups_in (in_pool inner mid) ≡ groups_of (shape_of c.query) (selected c.query rows)
-        → with_entries (groups_in (in_pool c.groups mid)) es ≡ groups_of (shape_of c.query) (selected c.query (done ++ rows))
-    rows_both done rows had has = absorbed_rows c.query done rows (groups_in (in_pool c.groups mid)) es gathered.table_in.is_table.once (ap groups_in same_mid ∙ had) has
+    pub overfull_next : (table : Table) (held : Option Files) → IsPool pool → AreOverfull c.query table held (next_stored c to) (in_pool c.groups mid) → IsOverfull table held (next_stored c to) pool c
+    overfull_next table held is_pool over = λ done had.
+        overfull_rows c.query table held (next_stored c to) done (in_pool c.groups mid) most_cursor_groups (ap groups_in same_mid ∙ had)
+        (own.table.holds.quota ∙ is_pool.quotas c.groups.owner (let lt = own.owner in omega (arith, lt))) over
 
-    -- too many for the owner of the cursor's groups
-    pub overfull_both : IsPool pool → c.groups.most < finite.len (with_entries (groups_in (in_pool c.groups mid)) es) → IsOverfull table held (next_stored c to) pool c
-    overfull_both is_pool over = λ done had.
-        let most : c.groups.most ≡ most_cursor_groups = own.table.holds.quota ∙ is_pool.quotas c.groups.owner (let lt = own.owner in omega (arith, lt)) in
-        over_so table held (next_stored c to) (λ rows. groups_in (in_pool inner mid) ≡ groups_of (shape_of c.query) (selected c.query rows))
-        (λ rows. most_cursor_groups < finite.len (groups_of (shape_of c.query) (selected c.query (done ++ rows))))
-        (λ rows has. subst (λ n. n < finite.len (groups_of (shape_of c.query) (selected c.query (done ++ rows)))) most
-        (subst (λ (g : Groups). c.groups.most < finite.len g) (rows_both done rows had has) over)) gathered.rows
+    module _ (u : PooledTable) (after : Pool) (stays : StaysIn c.groups mid u after) where
+      -- ---- where the rows were added
 
-    module _ (u : PooledTable) (after new : Pool) (merges : MergesAll es (in_pool c.groups mid) (in_pool u after)) (stays : StaysIn c.groups mid u after) (closes : KeepsOthers inner.owner after new) where
-      apart_new : u.owner ≢ inner.owner
-      apart_new is = apart (sym stays.owner ∙ is ∙ gathered.owner)
+      module _ (new : Pool) (closes : KeepsOthers keeper after new) where
+        apart_new : u.owner ≢ keeper
+        apart_new is = apart (sym stays.owner ∙ is)
 
-      kinds_new : kinds_at new u.owner ≡ kinds_at after u.owner
-      kinds_new = ap (λ kss. get_or kss u.owner []) closes.kinds
+        kinds_new : kinds_at new u.owner ≡ kinds_at after u.owner
+        kinds_new = ap (λ kss. get_or kss u.owner []) closes.kinds
 
-      table_new : IsTableIn u new
-      table_new = still_in u after new closes.quotas kinds_new (closes.others u.owner apart_new) stays.table
+        table_new : IsTableIn u new
+        table_new = still_in u after new closes.quotas kinds_new (closes.others u.owner apart_new) stays.table
 
-      same_new : in_pool u new ≡ in_pool u after
-      same_new = same_in u after new closes.quotas kinds_new (closes.others u.owner apart_new) stays.table.holds
+        same_new : in_pool u new ≡ in_pool u after
+        same_new = same_in u after new closes.quotas kinds_new (closes.others u.owner apart_new) stays.table.holds
 
-      pub moved_in : IsCursorIn new (record c { answered = to; groups = u })
-      moved_in = record {
-        owner = subst (λ n. n < 16) (sym stays.owner) own.owner;
-        owner_is = own.owner_is ∙ sym stays.owner;
-        table = table_new;
-        of_query = subst (IsTableOf c.query) (sym same_new) (record { columns = merges.columns ∙ old_query.columns; kinds = merges.kinds ∙ old_query.kinds });
-        fits = subst (λ (k : KeptGroups). HaveAtMost (to * 1048576) (groups_in k)) (sym same_new)
-            (subst (λ (g : Groups). HaveAtMost (to * 1048576) g) (sym merges.groups_are)
-            (at_most_more (with_entries (groups_in (in_pool c.groups mid)) es) (c.answered * 1048576 + more) (to * 1048576) (let long = next_long in omega (arith, long, next))
-            (absorbed_fit (groups_in (in_pool c.groups mid)) es (c.answered * 1048576) more gathered.table_in.is_table.once old_fits inner_each)));
-        answered = within;
-        few = own.few;
-        files = own.files;
-        there = later_there c.answered to c.files.items next own.there;
-      }
+        pub moved_aside : KeepsAside c.groups.owner keeper pool new
+        moved_aside = aside_both c.groups.owner keeper pool mid new (aside_of c.groups.owner keeper pool mid keeps)
+            (aside_both c.groups.owner keeper mid after new (aside_first c.groups.owner keeper mid after stays.keeps) (aside_second c.groups.owner keeper after new closes))
 
-      pub answers_both : AnswersRows table held (next_stored c to) pool new c (record c { answered = to; groups = u })
-      answers_both = λ done had. over_so table held (next_stored c to) (λ rows. groups_in (in_pool inner mid) ≡ groups_of (shape_of c.query) (selected c.query rows))
-          (λ rows. groups_in (in_pool u new) ≡ groups_of (shape_of c.query) (selected c.query (done ++ rows)))
-          (λ rows has. ap groups_in same_new ∙ merges.groups_are ∙ rows_both done rows had has) gathered.rows
+        module _ (table : Table) (held : Option Files) (added : AddsAll c.query table held (next_stored c to) (in_pool c.groups mid) (in_pool u after)) where
+          pub moved_in : IsCursorIn new (record c { answered = to; groups = u })
+          moved_in = record {
+            owner = subst (λ n. n < 16) (sym stays.owner) own.owner;
+            owner_is = own.owner_is ∙ sym stays.owner;
+            table = table_new;
+            of_query = subst (IsTableOf c.query) (sym same_new) added.of_query;
+            fits = subst (λ (k : KeptGroups). HaveAtMost (to * 1048576) (groups_in k)) (sym same_new)
+                (at_most_more (groups_in (in_pool u after)) (c.answered * 1048576 + length (next_stored c to) * 1048576) (to * 1048576) (let long = next_long in omega (arith, long, next))
+                (added.fits (c.answered * 1048576) (subst (λ (k : KeptGroups). HaveAtMost (c.answered * 1048576) (groups_in k)) (sym same_mid) own.fits)));
+            answered = within;
+            few = own.few;
+            files = own.files;
+            there = later_there c.answered to c.files.items next own.there;
+          }
 
--- too many already of the segments that come next
-pub overfull_next : (table : Table) (held : Option Files) (stored : List Stored) (pool : Pool) (c : Cursor) → HaveTooMany c.query table held stored most_cursor_groups → IsOverfull table held stored pool c
-overfull_next table held stored pool c over = λ done had.
-    over_so table held stored (λ rows. most_cursor_groups < finite.len (groups_of (shape_of c.query) (selected c.query rows)))
-    (λ rows. most_cursor_groups < finite.len (groups_of (shape_of c.query) (selected c.query (done ++ rows))))
-    (λ rows more. more_after c.query most_cursor_groups done rows more) over
+          pub answers_next : AnswersRows table held (next_stored c to) pool new c (record c { answered = to; groups = u })
+          answers_next = λ done had. over_so table held (next_stored c to)
+              (λ rows. groups_in (in_pool u after) ≡ groups_of (shape_of c.query) (selected c.query (done ++ rows)))
+              (λ rows. groups_in (in_pool u new) ≡ groups_of (shape_of c.query) (selected c.query (done ++ rows)))
+              (λ rows has. ap groups_in same_new ∙ has) (added_rows c.query table held (next_stored c to) done (in_pool c.groups mid) (in_pool u after) (ap groups_in same_mid ∙ had) added.groups)
+
+      -- ---- what was saved before, once rows were added
+
+      module _ (saved : SavedSlots) (is_saved : IsSavedBy c pool mid saved) where
+        saved_apart : saved.owner ≢ c.groups.owner
+        saved_apart is = apart (sym is ∙ is_saved.owner)
+
+        saved_slots : slots_of after saved.owner ≡ slots_of mid saved.owner
+        saved_slots = stays.keeps.others saved.owner saved_apart
+
+        kinds_after : (other : ℕ) → kinds_at after other ≡ kinds_at mid other
+        kinds_after other = ap (λ kss. get_or kss other []) stays.keeps.kinds
+
+        pub beside_after : IsHeldBeside u after saved
+        beside_after = record {
+          known = subst (λ (qs : List ℕ). saved.owner < length qs) (sym stays.keeps.quotas) is_saved.beside.known;
+          apart_from = λ is. saved_apart (is ∙ stays.owner);
+          kinds = kinds_after saved.owner ∙ is_saved.beside.kinds ∙ sym (kinds_after c.groups.owner) ∙ ap (kinds_at after) (sym stays.owner);
+          each = slots_still saved.owner mid after saved_slots saved.slots is_saved.beside.each;
+          apart = is_saved.beside.apart;
+          all = is_saved.beside.all ∙ ap finite.len (sym saved_slots);
+        }
+
+        pub saved_after : HasSaved c.groups pool after saved
+        saved_after = record {
+          table = is_saved.states.table;
+          states = states_still saved.owner mid after saved_slots saved.slots is_saved.beside.each ∙ is_saved.states.states;
+        }
+
+        saved_long : length saved.slots ≡ length c.groups.slots
+        saved_long = sym (length-map saved.slots (states_at mid)) ∙ ap length is_saved.states.states ∙ length-map c.groups.slots (λ (e : List Value × Place). states_at pool e.1)
+
+        pub no_more : length saved.slots ≤ length u.slots
+        no_more =
+            let more = stays.extends in
+            let long : length u.slots ≡ length c.groups.slots + length more.0 = ap (λ (t : PooledTable). length t.slots) more.1 ∙ length-append c.groups.slots more.0 in
+            let same = saved_long in
+            omega (arith, long, same)
+
+        pub kinds_back : kinds_at pool c.groups.owner ≡ kinds_at after u.owner
+        kinds_back = sym (keeps.kinds c.groups.owner apart apart) ∙ sym (kinds_after c.groups.owner) ∙ ap (kinds_at after) (sym stays.owner)
+
+        pub back_aside : (new : Pool) → slots_of new u.owner ≡ slots_of pool c.groups.owner → KeepsBut u.owner saved.owner after new → KeepsAside keeper keeper pool new
+        back_aside new own_back restores = record {
+          quotas = restores.quotas ∙ stays.keeps.quotas ∙ keeps.quotas;
+          width = restores.width ∙ stays.keeps.width ∙ keeps.width;
+          kinds = λ other ne no. ap (λ kss. get_or kss other []) restores.kinds ∙ kinds_after other ∙ keeps.kinds other ne no;
+          slots = λ other ne no. by other ne (nat_eq other c.groups.owner) refl;
+        }
+          where
+            by : (other : ℕ) → other ≢ keeper → (b : Bool) → nat_eq other c.groups.owner ≡ b → slots_of new other ≡ slots_of pool other
+            by other ne true is =
+                let same = eqb-true other c.groups.owner is in
+                ap (slots_of new) (same ∙ sym stays.owner) ∙ own_back ∙ ap (slots_of pool) (sym same)
+            by other ne false is =
+                restores.others other (λ e. eqb-false other c.groups.owner is (e ∙ stays.owner)) (λ e. ne (e ∙ is_saved.owner))
+                ∙ stays.keeps.others other (eqb-false other c.groups.owner is) ∙ keeps.slots other ne ne

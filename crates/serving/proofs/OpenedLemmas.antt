@@ -18,7 +18,7 @@ use Rattle.group_table.specs.Kept.{IsTableOf, groups_in}
 use Rattle.group_table.specs.Pooled.{IsNewIn, IsTableIn, PooledTable, in_pool}
 use Rattle.group_table.proofs.SlotFrames.{push_apart}
 use Rattle.scan_engine.specs.Scanned.{HaveAtMost}
-use Rattle.serving.proofs.GatherLemmas.{new_fits}
+use Rattle.serving.proofs.AddedLemmas.{new_fits}
 use Rattle.segment_file.specs.Names.{file_of}
 use Rattle.table_store.specs.Segments.{AreFirstNames}
 use Rattle.table_store.specs.Stands.{Stands}
@@ -33,7 +33,7 @@ use Rattle.cursor_serve.proofs.FetchLemmas.{itself, tied}
 use Rattle.cursor_serve.proofs.NumberedLemmas.{stays_numbered}
 use Rattle.cursor_serve.proofs.SoundLemmas.{all_joined, stays_sound}
 use Rattle.serving.specs.Calls.{IsAnsweredAs, Serves}
-use Rattle.serving.specs.Kept.{AreCursors, IsCursorIn, IsPool, KeepsAside, cursor_in, cursors_in, gatherer, owners_of, place_under, same_name}
+use Rattle.serving.specs.Kept.{AreCursors, IsCursorIn, IsPool, KeepsAside, cursor_in, cursors_in, keeper, owners_of, place_under, same_name}
 use Rattle.serving.specs.Opened.{IsNewCursor}
 use Rattle.serving.specs.declared.cursor.Cursor.{Cursor}
 use Rattle.serving.specs.declared.fault.ServeFault.{ServeFault}
@@ -200,8 +200,8 @@ any_split p (m ∷ ns) n is = by (p m) is (any_split p ns n)
 
 module _ (table : Table) (pool new : Pool) (ds : List Cursor) (name : List ℕ) (query : BoundQuery) (segments : List (List ℕ)) (owner : ℕ) (e : Cursor) (all : AreCursors pool ds)
     (made : IsNewCursor owner name query segments new e) (keeps : KeepsAside owner owner pool new) (free : list_any (nat_eq owner) (owners_of ds) ≡ false) (none : place_under name ds ≡ None) where
-  keeps_e : KeepsAside e.groups.owner gatherer pool new
-  keeps_e = aside_one e.groups.owner gatherer pool new (subst (λ o. KeepsAside o o pool new) (sym made.owner_is) keeps)
+  keeps_e : KeepsAside e.groups.owner keeper pool new
+  keeps_e = aside_one e.groups.owner keeper pool new (subst (λ o. KeepsAside o o pool new) (sym made.owner_is) keeps)
 
   others : AllByRecursion (IsOther e) ds
   others = all_apart e.groups.owner ds (none_among e.groups.owner (owners_of ds) (subst (λ o. list_any (nat_eq o) (owners_of ds) ≡ false) (sym made.owner_is) free))

@@ -8,24 +8,44 @@ use Rattle.group_table.specs.Kept.{IsTable}
 use Rattle.group_table.specs.Pooled.{HoldsAll, IsSlotOf, IsTableIn, KeepsOthers, PooledTable, group_in, in_pool}
 use Rattle.serving.specs.Kept.{KeepsAside}
 
-module _ (t : PooledTable) (old new : Pool) (quotas : new.quotas ≡ old.quotas) (kinds : kinds_at new t.owner ≡ kinds_at old t.owner)
-    (slots : slots_of new t.owner ≡ slots_of old t.owner) where
-  slots_as : (slot : Place) → slot.owner ≡ t.owner → slots_of new slot.owner ≡ slots_of old slot.owner
-  slots_as slot is = subst (λ o. slots_of new o ≡ slots_of old o) (sym is) slots
+-- ---- slots of an owner
 
-  slot_still : (slot : Place) → IsSlotOf old t.owner slot → IsSlotOf new t.owner slot
+module _ (owner : ℕ) (old new : Pool) (same : slots_of new owner ≡ slots_of old owner) where
+  slots_as : (slot : Place) → slot.owner ≡ owner → slots_of new slot.owner ≡ slots_of old slot.owner
+  slots_as slot is = subst (λ o. slots_of new o ≡ slots_of old o) (sym is) same
+
+  pub states_as : (slot : Place) → slot.owner ≡ owner → states_at new slot ≡ states_at old slot
+  states_as slot is = ap (λ (m : Slots). unwrap_or (finite.get m slot.number) []) (slots_as slot is)
+
+  slot_still : (slot : Place) → IsSlotOf old owner slot → IsSlotOf new owner slot
   slot_still slot s = record {
     owned = s.owned;
     out = ap (λ (m : Slots). finite.contains_key m slot.number) (slots_as slot s.owned) ∙ s.out;
   }
 
-  each_still : (es : List (List Value × Place)) → AllByRecursion (λ e. IsSlotOf old t.owner e.1) es → AllByRecursion (λ e. IsSlotOf new t.owner e.1) es
+  pub slots_still : (slots : List Place) → AllByRecursion (IsSlotOf old owner) slots → AllByRecursion (IsSlotOf new owner) slots
+  slots_still [] each = tt
+  slots_still (slot ∷ slots) each = (slot_still slot each.0, slots_still slots each.1)
+
+  pub states_still : (slots : List Place) → AllByRecursion (IsSlotOf old owner) slots → map (states_at new) slots ≡ map (states_at old) slots
+  states_still [] each = refl
+  states_still (slot ∷ slots) each = λ i. states_as slot each.0.owned i ∷ states_still slots each.1 i
+
+  pub each_still : (es : List (List Value × Place)) → AllByRecursion (λ e. IsSlotOf old owner e.1) es → AllByRecursion (λ e. IsSlotOf new owner e.1) es
   each_still [] each = tt
   each_still (e ∷ es) each = (slot_still e.1 each.0, each_still es each.1)
 
+  pub entries_still : (es : List (List Value × Place)) → AllByRecursion (λ e. IsSlotOf old owner e.1) es → map (λ (e : List Value × Place). states_at new e.1) es ≡ map (λ (e : List Value × Place). states_at old e.1) es
+  entries_still [] each = refl
+  entries_still (e ∷ es) each = λ i. states_as e.1 each.0.owned i ∷ entries_still es each.1 i
+
+-- ---- a table
+
+module _ (t : PooledTable) (old new : Pool) (quotas : new.quotas ≡ old.quotas) (kinds : kinds_at new t.owner ≡ kinds_at old t.owner)
+    (slots : slots_of new t.owner ≡ slots_of old t.owner) where
   groups_still : (es : List (List Value × Place)) → AllByRecursion (λ e. IsSlotOf old t.owner e.1) es → map (group_in new) es ≡ map (group_in old) es
   groups_still [] each = refl
-  groups_still (e ∷ es) each = λ i. (e.0, unwrap_or (finite.get (slots_as e.1 each.0.owned i) e.1.number) []) ∷ groups_still es each.1 i
+  groups_still (e ∷ es) each = λ i. (e.0, states_as t.owner old new slots e.1 each.0.owned i) ∷ groups_still es each.1 i
 
   pub same_in : HoldsAll t old → in_pool t new ≡ in_pool t old
   same_in holds = λ i. record {
@@ -35,15 +55,18 @@ module _ (t : PooledTable) (old new : Pool) (quotas : new.quotas ≡ old.quotas)
     groups = groups_still t.slots holds.each i;
   }
 
+  pub holds_still : HoldsAll t old → HoldsAll t new
+  holds_still holds = record {
+    known = subst (λ (qs : List ℕ). t.owner < length qs) (sym quotas) holds.known;
+    quota = holds.quota ∙ sym (ap (λ qs. get_or qs t.owner 0) quotas);
+    each = each_still t.owner old new slots t.slots holds.each;
+    apart = holds.apart;
+    all = holds.all ∙ ap finite.len (sym slots);
+  }
+
   pub still_in : IsTableIn t old → IsTableIn t new
   still_in table = record {
-    holds = record {
-      known = subst (λ (qs : List ℕ). t.owner < length qs) (sym quotas) table.holds.known;
-      quota = table.holds.quota ∙ sym (ap (λ qs. get_or qs t.owner 0) quotas);
-      each = each_still t.slots table.holds.each;
-      apart = table.holds.apart;
-      all = table.holds.all ∙ ap finite.len (sym slots);
-    };
+    holds = holds_still table.holds;
     is_table = subst IsTable (sym (same_in table.holds)) table.is_table;
   }
 

@@ -18,7 +18,7 @@ use Rattle.query_executor.proofs.EndLemmas.{Done, Failed}
 use Rattle.query_executor.specs.declared.fault.ExecutorFault.{ExecutorFault}
 use Rattle.serving.specs.Answered.{next_stored}
 use Rattle.serving.specs.Calls.{ReadsOf}
-use Rattle.serving.specs.Gathered.{stored_in}
+use Rattle.serving.specs.Added.{stored_in}
 use Rattle.serving.specs.Kept.{place_under}
 use Rattle.serving.specs.declared.cursor.Cursor.{Cursor}
 use Rattle.serving.specs.declared.fault.ServeFault.{ServeFault}

@@ -5,7 +5,7 @@ use Rattle.std.specs.List.{AllByRecursion}
 use Rattle.std.proofs.lemmas.Bool.{false≢true}
 use Rattle.segment_head.specs.Stored.{names_of}
 use Rattle.segment_head.specs.declared.stored.Stored.{Stored}
-use Rattle.serving.specs.Gathered.{stored_in}
+use Rattle.serving.specs.Added.{stored_in}
 
 -- each of some files is there
 abbrev pub AreThere : List (Option (List ℕ)) → Type 0

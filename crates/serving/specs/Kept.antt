@@ -16,12 +16,13 @@ use Rattle.serving.specs.declared.cursor.Cursor.{Cursor}
 
 -- ---- the pool
 
--- the owner of the groups of the segments that are being answered; those below are for cursors
-abbrev pub gatherer : ℕ
-gatherer = 16
+-- the owner of the states of the cursor that is being answered, as they were; those below are for
+-- cursors
+abbrev pub keeper : ℕ
+keeper = 16
 
--- an owner for each cursor and one for the segments that are being answered, each with the most
--- groups of a cursor, of as many kinds as a query may have aggregates
+-- an owner for each cursor and one for states as they were, each with the most groups of a cursor,
+-- of as many kinds as a query may have aggregates
 pub record IsPool (pool : Pool) : Type 0 where
   pub owners : length pool.quotas ≡ 17
   pub quotas : (owner : ℕ) → owner < 17 → quota_of pool owner ≡ most_cursor_groups

@@ -1,6 +1,6 @@
 pub mod Faults
 pub mod Kept
-pub mod Gathered
+pub mod Added
 pub mod Answered
 pub mod Opened
 pub mod Closed

@@ -3,18 +3,17 @@
 //! when it was opened.
 #![tactic(auto)]
 
+mod adding;
 mod answering;
 mod aside;
 mod closing;
 mod cursor;
 mod fault;
-mod gathering;
 mod opening;
 mod places;
 mod serving;
 
 pub use cursor::Cursor;
 pub use fault::ServeFault;
-pub use gathering::MOST_CURSOR_GROUPS;
-pub use places::MOST_CURSORS;
+pub use places::{MOST_CURSOR_GROUPS, MOST_CURSORS};
 pub use serving::Serving;

@@ -7,8 +7,7 @@ ghost use Rattle.serving.specs.Kept.{IsEmptyPool, IsPool, KeepsAside};
 ghost use Rattle.serving.specs.Opened.{IsNewCursor};
 
 use crate::cursor::Cursor;
-use crate::gathering::MOST_CURSOR_GROUPS;
-use crate::places::MOST_CURSORS;
+use crate::places::{MOST_CURSOR_GROUPS, MOST_CURSORS};
 use agg_laws::AggKind;
 use group_table::{GroupTable, SlotPool, kinds_in};
 use outside::{Name, NoMemory, Seq};
@@ -19,7 +18,8 @@ use table_schema::BoundQuery;
 /// The most aggregates of a query.
 const MOST_AGGS: usize = 16;
 
-/// A pool with an owner for each cursor and one for the segments that are being answered.
+/// A pool with an owner for each cursor and one for the states of the cursor that is
+/// being answered, as they were.
 pub(crate) fn cursor_pool(alloc: Global) -> Result<SlotPool, NoMemory>
     ensures { IfOk result IsEmptyPool }
 {

@@ -29,6 +29,7 @@ use crate::opening::{cursor_pool, new_cursor};
 use crate::places::{MOST_CURSORS, free_owner, place_of};
 use group_table::SlotPool;
 use outside::{Bytes, Depot, NoMemory, Shelf};
+use segment_scan::IdRooms;
 use sql_reply::answer;
 use std::alloc::Global;
 use table_schema::{BoundQuery, Table};
@@ -38,11 +39,13 @@ use table_store::{
 };
 use values::Columns;
 
-/// Cursors that are open, and the pool that their groups are in.
+/// Cursors that are open, the pool that their groups are in, and where the ids of the segments that
+/// they answer are put.
 #[derive(Drop)]
 pub struct Serving {
     pub pool: SlotPool,
     pub cursors: Vec<Cursor>,
+    pub rooms: IdRooms,
 }
 
 impl Serving {
@@ -53,7 +56,12 @@ impl Serving {
     {
         let pool = cursor_pool(alloc)?;
         let cursors = Vec::new(alloc);
-        Ok(Serving { pool, cursors })
+        let rooms = IdRooms::new(alloc);
+        Ok(Serving {
+            pool,
+            cursors,
+            rooms,
+        })
     }
 
     /// Whether a cursor of this name is open.
@@ -150,7 +158,8 @@ impl Serving {
             return Ok(0);
         }
         let to = own.answered + 1;
-        match answer_to(alloc, shelf, table, &mut self.pool, own, to) {
+        let rooms = &mut self.rooms;
+        match answer_to(alloc, shelf, table, &mut self.pool, own, to, rooms) {
             Ok(()) => Ok(left - 1),
             Err(fault) => Err(ServeFault::from(fault)),
         }
@@ -189,7 +198,8 @@ impl Serving {
         };
         let own = &mut self.cursors[at];
         let to = own.segments.len() as u32;
-        match answer_to(alloc, shelf, table, &mut self.pool, own, to) {
+        let rooms = &mut self.rooms;
+        match answer_to(alloc, shelf, table, &mut self.pool, own, to, rooms) {
             Ok(()) => {}
             Err(fault) => return Err(ServeFault::from(fault)),
         }

@@ -1,5 +1,5 @@
 use Rattle.std.proofs.Common.{◌≡◌, ◌++◌, drop}
-use Rattle.serving.specs.Gathered.{stored_in}
+use Rattle.serving.specs.Added.{stored_in}
 use Rattle.serving.proofs.answering.stored_of.Given as goal
 
 abbrev pub invariant-names : goal.invariant-names

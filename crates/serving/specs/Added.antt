@@ -1,21 +1,15 @@
--- The groups of the rows of segments, gathered in the table of the owner that is for them.
-use Rattle.std.specs.Prelude.{◌≡◌, ◌<◌, ◌+◌, ◌*◌, ℕ, List, [], ◌∷◌, length, Option, Some, None, IfSome}
-use Rattle.std.specs.FinMap as finite
+-- The rows of segments that stand in files, and groups that they are added to.
+use Rattle.std.specs.Prelude.{◌≡◌, ◌+◌, ◌*◌, ℕ, List, [], ◌∷◌, length, Option, Some, None, IfSome}
 use Rattle.std.specs.List.{AllZip}
 use Rattle.outside.specs.Files.{Files}
 use Rattle.values.specs.declared.value.Value.{Value}
 use Rattle.table_schema.specs.declared.query.BoundQuery.{BoundQuery}
 use Rattle.table_schema.specs.declared.table.Table.{Table}
-use Rattle.state_pool.specs.Pool.{Pool}
-use Rattle.group_table.specs.Groups.{groups_of}
 use Rattle.group_table.specs.Kept.{IsTableOf, KeptGroups, groups_in}
-use Rattle.group_table.specs.Pooled.{IsTableIn, PooledTable, in_pool}
-use Rattle.group_table.specs.Shape.{shape_of}
-use Rattle.scan_engine.specs.Scanned.{HaveAtMost, selected}
+use Rattle.scan_engine.specs.Scanned.{HaveAtMost}
 use Rattle.segment_head.specs.Stored.{HasImage, stored_rows}
 use Rattle.segment_head.specs.declared.stored.Stored.{Stored}
 use Rattle.query_executor.specs.Steps.{AddsFirst}
-use Rattle.serving.specs.Kept.{gatherer}
 
 -- segments of these names where they stand, each in a file of its own
 abbrev pub stored_in : List (List ℕ) → List (Option (List ℕ)) → List Stored
@@ -38,18 +32,3 @@ pub record AddsAll (query : BoundQuery) (table : Table) (held : Option Files) (s
 abbrev pub OverRows : Table → Option Files → List Stored → (List (List Value) → Type 0) → Type 0
 OverRows table held stored P = IfSome held (λ files. (segments : List (List (List Value)))
     → AllZip (HasImage table files) stored segments → P (stored_rows table segments))
-
--- a table has the groups of the rows of all segments that satisfy the filter
-pub record IsGathered (query : BoundQuery) (table : Table) (held : Option Files)
-    (stored : List Stored) (pool : Pool) (groups : PooledTable) : Type 0 where
-  pub owner : groups.owner ≡ gatherer
-  pub table_in : IsTableIn groups pool
-  pub of_query : IsTableOf query (in_pool groups pool)
-  pub fits : HaveAtMost (length stored * 1048576) (groups_in (in_pool groups pool))
-  pub rows : OverRows table held stored (λ rows. groups_in (in_pool groups pool)
-      ≡ groups_of (shape_of query) (selected query rows))
-
--- the rows of these segments have more groups than there may be
-abbrev pub HaveTooMany : BoundQuery → Table → Option Files → List Stored → ℕ → Type 0
-HaveTooMany query table held stored most = OverRows table held stored (λ rows.
-    most < finite.len (groups_of (shape_of query) (selected query rows)))
