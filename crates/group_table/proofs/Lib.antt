@@ -7,3 +7,4 @@ mod PooledSteps
 pub mod NewKeys
 pub mod KeyPlaces
 mod AbsorbSteps
+pub mod SavedSteps

@@ -20,6 +20,7 @@ use Rattle.group_table.specs.Kept.{groups_in, key_eq, HaveValues, IsGroup, IsTab
 use Rattle.group_table.specs.Pooled.{PooledTable, group_in, in_pool, IsSlotOf, HoldsAll, IsTableIn, IsNewIn, StaysIn, KeepsOthers, MergesIn, Starts, Finds, slot_at, with_slots}
 use Rattle.group_table.proofs.KeptLemmas.{key_equiv, same_key, get_lookup, len_once}
 use Rattle.group_table.proofs.KeptSteps as steps
+use Rattle.state_pool.proofs.HeldLemmas.{taken_writes, filled}
 use Rattle.group_table.proofs.SlotFrames as frames
 
 -- ---- the groups of slots
@@ -61,11 +62,11 @@ numbers_of : (P : ℕ → Type 0) (es : Entries) → AllByRecursion P (numbers e
 numbers_of P [] h = tt
 numbers_of P (e ∷ es) h = (h.0, numbers_of P es h.1)
 
-slots_in : (P : Place → Type 0) (es : Entries) → AllByRecursion (λ e. P e.1) es → AllByRecursion P (map (λ e. e.1) es)
+pub slots_in : (P : Place → Type 0) (es : Entries) → AllByRecursion (λ e. P e.1) es → AllByRecursion P (map (λ e. e.1) es)
 slots_in P [] h = tt
 slots_in P (e ∷ es) h = (h.0, slots_in P es h.1)
 
-same_numbers : (es : Entries) → map (λ (s : Place). s.number) (map (λ e. e.1) es) ≡ numbers es
+pub same_numbers : (es : Entries) → map (λ (s : Place). s.number) (map (λ e. e.1) es) ≡ numbers es
 same_numbers [] = refl
 same_numbers (e ∷ es) = ap (λ l. e.1.number ∷ l) (same_numbers es)
 
@@ -146,6 +147,7 @@ module _ (t : PooledTable) (old new : Pool) (table : IsTableIn t old) (key : Lis
         merges = subst (Merges key states t') seen done.1;
         stays = record {
           owner = refl;
+          extends = frames.extends_same t;
           table = record { holds = holds_still; is_table = subst IsTable seen done.0 };
           keeps = subst (λ o. KeepsOthers o old new) own.owned (frames.keeps_changed slot.owner _ old new writes);
         };
@@ -241,6 +243,7 @@ module _ (t u : PooledTable) (old mid new : Pool) (holds : HoldsAll t old) (key 
   pub stays_more : IsTable (in_pool more new) → StaysIn t old u new
   stays_more table = record {
     owner = ap (λ (u : PooledTable). u.owner) starts.table;
+    extends = ((key, slot) ∷ [], starts.table);
     table = subst (λ (u : PooledTable). IsTableIn u new) (sym starts.table) (record { holds = holds_more; is_table = table });
     keeps = keeps_more;
   }
@@ -288,12 +291,12 @@ module _ (t u : PooledTable) (old mid : Pool) (table : IsTableIn t old) (key : L
 
   ready_started : Starts key slot t old u mid → Ready
   ready_started s =
-      let units : states_at mid slot ≡ units_of (kinds_at old t.owner) = frames.states_here slot (units_of (kinds_at old t.owner)) old mid (frames.taken_writes t.owner slot old mid s.takes) in
+      let units : states_at mid slot ≡ units_of (kinds_at old t.owner) = frames.states_here slot (units_of (kinds_at old t.owner)) old mid (taken_writes t.owner slot old mid s.takes) in
       let none : IsNewKey (in_pool t old) key = get_lookup (map (group_in old) t.slots) key ∙ group_lookup old key t.slots ∙ ap (option_map (states_at old)) s.absent in record {
-        out = (frames.own_here slot (units_of (kinds_at old t.owner)) old mid (frames.taken_writes t.owner slot old mid s.takes) t.owner s.takes.owner_is).out;
+        out = (frames.own_here slot (units_of (kinds_at old t.owner)) old mid (taken_writes t.owner slot old mid s.takes) t.owner s.takes.owner_is).out;
         owner = s.takes.owner_is;
         kinds = ap kinds_of units ∙ steps.kinds_units (kinds_at old t.owner);
-        kinds_kept = frames.same_kinds slot.owner _ old mid (frames.taken_writes t.owner slot old mid s.takes) t.owner;
+        kinds_kept = frames.same_kinds slot.owner _ old mid (taken_writes t.owner slot old mid s.takes) t.owner;
         room = subst (λ s. RowFits s most_values) (steps.new_with (in_pool t old) key states none
             ∙ sym (units_merged (kinds_at old t.owner) states ks) ∙ ap (λ us. merged_rows us states) (sym units)) fits;
       }
@@ -316,8 +319,8 @@ module _ (t u : PooledTable) (old mid : Pool) (table : IsTableIn t old) (key : L
           subst (λ (u : PooledTable). MergesIn key states t old u new) (sym h.1)
           (merged_found t old new table key states (merged_rows (states_at old slot) states) slot h.0 same ks values fits refl)
       by (inr s) =
-          let units : states_at mid slot ≡ units_of (kinds_at old t.owner) = frames.states_here slot (units_of (kinds_at old t.owner)) old mid (frames.taken_writes t.owner slot old mid s.takes) in
-          let whole = frames.filled t.owner slot old mid s.takes (merged_rows (states_at mid slot) states) new writes in
+          let units : states_at mid slot ≡ units_of (kinds_at old t.owner) = frames.states_here slot (units_of (kinds_at old t.owner)) old mid (taken_writes t.owner slot old mid s.takes) in
+          let whole = filled t.owner slot old mid s.takes (merged_rows (states_at mid slot) states) new writes in
           merged_more t u old mid new table.holds key states (merged_rows (states_at mid slot) states) slot s whole table.is_table long ks values fits
           (ap (λ us. merged_rows us states) units ∙ units_merged (kinds_at old t.owner) states ks)
 
@@ -440,7 +443,7 @@ module _ (q : BoundQuery) (owner : ℕ) (pool : Pool) (t : PooledTable) (known :
   pub new_whole : nat_eq (length q.groups) 0 ≡ true → (u : PooledTable) (mid : Pool) (key : List Value) (slot : Place) → key ≡ []
       → Starts key slot t pool u mid → IsNewIn q owner pool mid u
   new_whole e u mid key slot k s =
-      let whole = frames.taken_writes t.owner slot pool mid s.takes in
+      let whole = taken_writes t.owner slot pool mid s.takes in
       let units = units_of (kinds_at pool t.owner) in
       let group = steps.empty_group t.columns (kinds_at pool t.owner) key units (steps.no_columns t.columns q.groups columns e) k refl in
       let more = table_more t u pool mid mid holds_none key units units slot s whole none_kept group refl in

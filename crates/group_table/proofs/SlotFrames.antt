@@ -1,5 +1,5 @@
 -- The slots of an owner once one of them is taken, written or given back: which are out, and what states they have.
-use Rattle.std.proofs.Common.{◌≡◌, ◌≢◌, ◌∙◌, ℕ, ◌+◌, ◌-◌, Bool, true, false, cond, nat_eq, List, [], ◌∷◌, ◌++◌, map, get_or, Option, Some, None, refl, sym, ap, subst, arith, is_some, unwrap_or}
+use Rattle.std.proofs.Common.{◌≡◌, ◌≢◌, ◌∙◌, ℕ, ◌+◌, ◌-◌, Bool, true, false, cond, nat_eq, List, [], ◌∷◌, ◌++◌, map, get_or, Option, Some, None, refl, sym, ap, subst, arith, is_some, unwrap_or, append-nil, append_assoc}
 use borrow.Author.Tests.{eqb-true, eqb-false}
 use Rattle.std.proofs.lemmas.Bool.{false≢true}
 use Rattle.std.specs.FinMap as finite
@@ -10,7 +10,8 @@ use Rattle.agg_laws.specs.declared.states.AggState.{AggState}
 use Rattle.agg_laws.specs.Rows.{units_of}
 use Rattle.state_pool.specs.Pool.{Pool, Place, Slots, Changes, Writes, Takes, GivesBack, IsOut, held, kinds_at, quota_of, slots_of, states_at}
 use Rattle.state_pool.proofs.SlotLemmas.{put_here, put_there, gone_there, same_slots}
-use Rattle.group_table.specs.Pooled.{PooledTable, IsSlotOf, IsTableIn, KeepsOthers, StaysIn}
+use Rattle.values.specs.declared.value.Value.{Value}
+use Rattle.group_table.specs.Pooled.{PooledTable, IsSlotOf, IsTableIn, KeepsOthers, StaysIn, Extends, with_slots}
 
 -- ---- numbers
 
@@ -96,36 +97,6 @@ module _ (slot : Place) (w : List AggState) (old new : Pool) (writes : Writes sl
   held_more owner e none = subst (λ o. held new o ≡ held old o + 1) e
       (held_with ∙ ap (λ b. cond b (held old slot.owner) (held old slot.owner + 1)) (ap is_some none))
 
--- ---- a slot that was taken and then written
-
-module _ (owner : ℕ) (slot : Place) (old mid : Pool) (takes : Takes owner slot old mid) where
-  -- to take a slot is to write it, where nobody has it
-  taken_owner : (other : ℕ) → other ≡ owner → slots_of mid other ≡ finite.insert (slots_of old other) slot.number (units_of (kinds_at old owner))
-  taken_owner other e = subst (λ o. slots_of mid o ≡ finite.insert (slots_of old o) slot.number (units_of (kinds_at old owner))) (sym e) takes.changes.own
-
-  pub taken_writes : Writes slot (units_of (kinds_at old owner)) old mid
-  taken_writes = record {
-    quotas = takes.changes.quotas;
-    kinds = takes.changes.kinds;
-    width = takes.changes.width;
-    own = taken_owner slot.owner takes.owner_is;
-    others = λ other ne. takes.changes.others other (λ is. ne (is ∙ sym takes.owner_is));
-  }
-
-  pub filled : (w : List AggState) (new : Pool) → Writes slot w mid new → Writes slot w old new
-  filled w new writes = record {
-    quotas = writes.quotas ∙ takes.changes.quotas;
-    kinds = writes.kinds ∙ takes.changes.kinds;
-    width = writes.width ∙ takes.changes.width;
-    own = writes.own ∙ ap (λ (m : Slots). finite.insert m slot.number w) taken_writes.own ∙ again (slots_of old slot.owner) (units_of (kinds_at old owner));
-    others = λ other ne. writes.others other ne ∙ taken_writes.others other ne;
-  }
-    where
-      again : (m : Slots) (u : List AggState) → finite.insert (finite.insert m slot.number u) slot.number w ≡ finite.insert m slot.number w
-      again m u = same_slots (finite.insert (finite.insert m slot.number u) slot.number w) (finite.insert m slot.number w) slot.number
-          (put_here (finite.insert m slot.number u) slot.number w ∙ sym (put_here m slot.number w))
-          (λ q ne. put_there (finite.insert m slot.number u) slot.number w q ne ∙ put_there m slot.number u q ne ∙ sym (put_there m slot.number w q ne))
-
 -- ---- a slot given back
 
 module _ (slot : Place) (old new : Pool) (gives : GivesBack slot old new) where
@@ -179,12 +150,19 @@ taken_apart owner old n none (s ∷ slots) each = (apart_of n s.number differs, 
 
 -- ---- a table that stays one
 
+pub extends_same : (t : PooledTable) → Extends t t
+extends_same t = ([], sym (ap (with_slots t) (append-nil t.slots)))
+
+pub extends_both : (t u v : PooledTable) → Extends t u → Extends u v → Extends t v
+extends_both t u v (one, a) (two, b) = (one ++ two, b ∙ ap (λ (w : PooledTable). with_slots w (w.slots ++ two)) a ∙ ap (with_slots t) (append_assoc t.slots one two))
+
 pub stays_same : (t : PooledTable) (pool : Pool) → IsTableIn t pool → StaysIn t pool t pool
-stays_same t pool table = record { owner = refl; table = table; keeps = keeps_same t.owner pool }
+stays_same t pool table = record { owner = refl; extends = extends_same t; table = table; keeps = keeps_same t.owner pool }
 
 pub stays_both : (t u v : PooledTable) (old mid new : Pool) → StaysIn t old u mid → StaysIn u mid v new → StaysIn t old v new
 stays_both t u v old mid new a b = record {
   owner = b.owner ∙ a.owner;
+  extends = extends_both t u v a.extends b.extends;
   table = b.table;
   keeps = keeps_both t.owner old mid new a.keeps (subst (λ o. KeepsOthers o mid new) a.owner b.keeps);
 }

@@ -47,10 +47,7 @@ impl GroupTable {
         ensures keeps { KeepsOthers keeper pool.old pool.new }
         ensures err { OnErr result (held pool.new keeper ≡ 0) }
     {
-        let mut saved = SavedGroups {
-            owner: keeper,
-            slots: Vec::with_capacity(alloc, self.slots.len())?,
-        };
+        let mut slots = Vec::with_capacity(alloc, self.slots.len())?;
         for at in 0..self.slots.len() {
             let Some((_, own)) = self.slots.get_index(at) else {
                 unreachable!();
@@ -58,9 +55,14 @@ impl GroupTable {
             let Some(slot) = pool.take_copy(keeper, own) else {
                 unreachable!();
             };
-            saved.slots.push(slot)?;
+            if let Err(_) = slots.push(slot) {
+                unreachable!();
+            }
         }
-        Ok(saved)
+        Ok(SavedGroups {
+            owner: keeper,
+            slots,
+        })
     }
 
     /// Makes the groups those that were saved: what has come to them since is gone, and so are the
@@ -70,7 +72,6 @@ impl GroupTable {
         requires beside { IsHeldBeside self.old pool.old saved }
         requires fewer { length saved.slots ≤ length self.old.slots }
         ensures restored { (was : PooledTable) (before : Pool) → Extends was self.old
-            → kinds_at before was.owner ≡ kinds_at pool.old self.old.owner
             → HasSaved was before pool.old saved
             → (self.new ≡ was) × (slots_of pool.new self.old.owner ≡ slots_of before was.owner) }
         ensures none { held pool.new saved.owner ≡ 0 }

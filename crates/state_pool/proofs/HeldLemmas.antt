@@ -1,10 +1,11 @@
--- Slots that are still held after another one is taken.
-use Rattle.std.proofs.Common.{◌≡◌, ◌≢◌, ◌∙◌, ℕ, ◌<◌, ◌≤◌, true, ap, subst, arith, ◌⊎◌, inl, inr, is_some}
+-- Slots that are still held after another one is taken, and a slot that is taken and then written.
+use Rattle.std.proofs.Common.{◌≡◌, ◌≢◌, ◌∙◌, ℕ, ◌<◌, ◌≤◌, true, List, [], sym, ap, subst, arith, ◌⊎◌, inl, inr, is_some, unwrap_or}
 use Rattle.std.proofs.lemmas.Bool.{cases_lt}
 use Rattle.std.specs.FinMap as finite
+use Rattle.agg_laws.specs.declared.states.AggState.{AggState}
 use Rattle.agg_laws.specs.Rows.{units_of}
-use Rattle.state_pool.specs.Pool.{Pool, Place, Slots, slots_of, kinds_at, Takes, IsOut}
-use Rattle.state_pool.proofs.SlotLemmas.{put_here, put_there}
+use Rattle.state_pool.specs.Pool.{Pool, Place, Slots, slots_of, kinds_at, states_at, Changes, Writes, Takes, TakesWith, IsOut}
+use Rattle.state_pool.proofs.SlotLemmas.{put_here, put_there, same_slots}
 
 -- what is asked of a number holds of every number if it holds of that one and of every other
 pub each_number : (P : ℕ → Type 0) (n : ℕ) → P n → ((q : ℕ) → q ≢ n → P q) → (q : ℕ) → P q
@@ -36,3 +37,44 @@ pub taken_out : (owner : ℕ) (slot : Place) (old new : Pool) → Takes owner sl
 taken_out owner slot old new t = ap (λ o. finite.contains_key (slots_of new o) slot.number) t.owner_is
     ∙ ap (λ (m : Slots). finite.contains_key m slot.number) t.changes.own
     ∙ ap is_some (put_here (slots_of old owner) slot.number (units_of (kinds_at old owner)))
+
+-- ---- a slot that was taken and then written
+
+module _ (owner : ℕ) (slot : Place) (old mid : Pool) (takes : Takes owner slot old mid) where
+  -- to take a slot is to write it, where nobody has it
+  taken_owner : (other : ℕ) → other ≡ owner → slots_of mid other ≡ finite.insert (slots_of old other) slot.number (units_of (kinds_at old owner))
+  taken_owner other e = subst (λ o. slots_of mid o ≡ finite.insert (slots_of old o) slot.number (units_of (kinds_at old owner))) (sym e) takes.changes.own
+
+  pub taken_writes : Writes slot (units_of (kinds_at old owner)) old mid
+  taken_writes = record {
+    quotas = takes.changes.quotas;
+    kinds = takes.changes.kinds;
+    width = takes.changes.width;
+    own = taken_owner slot.owner takes.owner_is;
+    others = λ other ne. takes.changes.others other (λ is. ne (is ∙ sym takes.owner_is));
+  }
+
+  pub filled : (w : List AggState) (new : Pool) → Writes slot w mid new → Writes slot w old new
+  filled w new writes = record {
+    quotas = writes.quotas ∙ takes.changes.quotas;
+    kinds = writes.kinds ∙ takes.changes.kinds;
+    width = writes.width ∙ takes.changes.width;
+    own = writes.own ∙ ap (λ (m : Slots). finite.insert m slot.number w) taken_writes.own ∙ again (slots_of old slot.owner) (units_of (kinds_at old owner));
+    others = λ other ne. writes.others other ne ∙ taken_writes.others other ne;
+  }
+    where
+      again : (m : Slots) (u : List AggState) → finite.insert (finite.insert m slot.number u) slot.number w ≡ finite.insert m slot.number w
+      again m u = same_slots (finite.insert (finite.insert m slot.number u) slot.number w) (finite.insert m slot.number w) slot.number
+          (put_here (finite.insert m slot.number u) slot.number w ∙ sym (put_here m slot.number w))
+          (λ q ne. put_there (finite.insert m slot.number u) slot.number w q ne ∙ put_there m slot.number u q ne ∙ sym (put_there m slot.number w q ne))
+
+  -- a slot of another owner has what it had
+  pub states_beside : (other : Place) → other.owner ≢ owner → states_at mid other ≡ states_at old other
+  states_beside other ne = ap (λ (m : Slots). unwrap_or (finite.get m other.number) []) (takes.changes.others other.owner ne)
+
+  pub taken_with : (w : List AggState) (new : Pool) → Writes slot w mid new → TakesWith owner w slot old new
+  taken_with w new writes = record {
+    owner_is = takes.owner_is;
+    new_number = takes.new_number;
+    changes = subst (λ o. Changes o (finite.insert (slots_of old o) slot.number w) old new) takes.owner_is (filled w new writes);
+  }

@@ -1,25 +1,41 @@
--- The rows of two slots of different owners.
-use Rattle.std.proofs.Common.{◌≡◌, ◌≢◌, ◌∙◌, ℕ, ◌+◌, ◌*◌, ◌<◌, ◌≤◌, ◌⊎◌, inl, inr, List, length, Option, Some, None, get_or, sym, ap, arith}
+-- The rows of two slots of different owners, whose states or whose owners are of the same kinds.
+use Rattle.std.proofs.Common.{◌≡◌, ◌≢◌, ◌∙◌, ℕ, ◌+◌, ◌*◌, ◌<◌, ◌≤◌, ◌⊎◌, inl, inr, List, length, Option, Some, None, get_or, sym, ap, subst, arith}
 use Rattle.agg_laws.specs.declared.states.AggState.{AggState}
 use Rattle.agg_laws.specs.Rows.{kinds_of}
 use Rattle.state_columns.proofs.RowPlaces.{same_length}
 use Rattle.state_pool.specs.declared.pool.Owner.{Owner}
-use Rattle.state_pool.specs.Pool.{Pool, Place, IsOut, kinds_at, states_at}
-use Rattle.state_pool.specs.Kept.{IsKept, pool_in, part_of}
+use Rattle.state_pool.specs.Pool.{Pool, Place, Writes, IsOut, kinds_at, states_at}
+use Rattle.state_pool.specs.Kept.{IsKept, pool_in, part_of, with_part}
 use Rattle.state_pool.proofs.CellLemmas.{other_row, row_before}
-use Rattle.state_pool.proofs.OwnerLemmas.{kinds_fit}
-use Rattle.state_pool.proofs.PoolSteps.{seen_holder, seen_row, seen_long, seen_states}
+use Rattle.state_pool.proofs.OwnerLemmas.{kinds_fit, own_kinds}
+use Rattle.state_pool.proofs.PoolSteps.{known_owner, seen_holder, seen_row, seen_long, seen_states, seen_rewrites, seen_row_kept}
 
 module _ (owners : List Owner) (holders : List (Option ℕ)) (width : ℕ) (cells : List AggState) (free : List ℕ)
     (kept : IsKept owners (pool_in owners holders width cells) free) (pool : Pool) (pool_is : pool_in owners holders width cells ≡ pool)
     (owner number : ℕ) (slot : Place) (slot_is : ◌≡◌ {A = Place} (record { owner = owner; number = number }) slot) (out : IsOut pool slot)
     (other with_number : ℕ) (from : Place) (from_is : ◌≡◌ {A = Place} (record { owner = other; number = with_number }) from) (from_out : IsOut pool from)
-    (apart : from.owner ≢ slot.owner) (kinds : kinds_of (states_at pool slot) ≡ kinds_of (states_at pool from))
-    (n : ℕ) (few : n ≡ length (kinds_at pool slot.owner)) where
-  pub few_from : n ≡ length (kinds_at pool from.owner)
-  few_from = few ∙ sym (seen_long owners holders width cells free kept pool pool_is owner number slot slot_is out)
-      ∙ same_length (states_at pool slot) (states_at pool from) kinds
-      ∙ seen_long owners holders width cells free kept pool pool_is other with_number from from_is from_out
+    (apart : from.owner ≢ slot.owner) (kinds : (kinds_of (states_at pool slot) ≡ kinds_of (states_at pool from)) ⊎ (kinds_at pool slot.owner ≡ kinds_at pool from.owner))
+    (own : Owner) (is : own ≡ get_or owners owner own) (n : ℕ) (count : n ≡ length own.kinds) where
+  few : n ≡ length (kinds_at pool slot.owner)
+  few = count
+      ∙ ap length (sym (own_kinds owners holders width cells free kept owner own (known_owner owners holders width cells free kept pool pool_is owner number slot slot_is out) is))
+      ∙ (λ i. length (kinds_at (pool_is i) (ap (λ (p : Place). p.owner) slot_is i)))
+
+  few_from : n ≡ length (kinds_at pool from.owner)
+  few_from = few ∙ by kinds
+    where
+      by : (kinds_of (states_at pool slot) ≡ kinds_of (states_at pool from)) ⊎ (kinds_at pool slot.owner ≡ kinds_at pool from.owner)
+          → length (kinds_at pool slot.owner) ≡ length (kinds_at pool from.owner)
+      by (inl same) = sym (seen_long owners holders width cells free kept pool pool_is owner number slot slot_is out)
+          ∙ same_length (states_at pool slot) (states_at pool from) same
+          ∙ seen_long owners holders width cells free kept pool pool_is other with_number from from_is from_out
+      by (inr same) = ap length same
+
+  pub long_into : length (states_at pool slot) ≡ n
+  long_into = seen_long owners holders width cells free kept pool pool_is owner number slot slot_is out ∙ sym few
+
+  pub long_from : length (states_at pool from) ≡ n
+  long_from = seen_long owners holders width cells free kept pool pool_is other with_number from from_is from_out ∙ sym few_from
 
   pub row_into : number * width + n ≤ length cells
   row_into = omega (arith, seen_row owners holders width cells free kept pool pool_is owner number slot slot_is out, few)
@@ -52,3 +68,17 @@ module _ (owners : List Owner) (holders : List (Option ℕ)) (width : ℕ) (cell
       by : (number < with_number) ⊎ (with_number < number) → (number * width + n ≤ with_number * width) ⊎ (with_number * width + n ≤ number * width)
       by (inl lt) = inl (row_before number with_number width n lt narrow)
       by (inr lt) = inr (row_before with_number number width n lt narrow)
+
+  -- the cells with other states in the first row
+  module _ (states lent new_cells : List AggState) (len : length states ≡ n) (lent_is : lent ≡ cells)
+      (new_is : new_cells ≡ with_part lent (number * width) n states) where
+    cells_are : with_part cells (number * width) n states ≡ new_cells
+    cells_are = sym (new_is ∙ ap (λ cs. with_part cs (number * width) n states) lent_is)
+
+    pub pair_writes : Writes slot states pool (pool_in owners holders width new_cells)
+    pair_writes = subst (λ (cs : List AggState). Writes slot states pool (pool_in owners holders width cs)) cells_are
+        (seen_rewrites owners holders width cells free kept pool pool_is owner number slot slot_is out states n few len)
+
+    pub pair_kept : IsKept owners (pool_in owners holders width new_cells) free
+    pair_kept = subst (λ (cs : List AggState). IsKept owners (pool_in owners holders width cs) free) cells_are
+        (seen_row_kept owners holders width cells free kept pool pool_is owner number slot slot_is out states n few len)

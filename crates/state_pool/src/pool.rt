@@ -216,14 +216,13 @@ impl SlotPool {
         merge_part(self.cells.as_mut_slice(), into, from, count);
     }
 
-    /// The states in a slot of another owner in the place of a slot's own. No other slot changes,
-    /// and no memory is taken.
+    /// The states in a slot of another owner, whose kinds are the same, in the place of a slot's
+    /// own. No other slot changes, and no memory is taken.
     pub fn copy_slot(&mut self, slot: &Slot, from: &Slot)
         requires out { IsOut self.old slot.now }
         requires from { IsOut self.old from.now }
         requires apart { from.now.owner ≢ slot.now.owner }
-        requires kinds { kinds_of (states_at self.old slot.now)
-            ≡ kinds_of (states_at self.old from.now) }
+        requires kinds { kinds_at self.old slot.now.owner ≡ kinds_at self.old from.now.owner }
         ensures { Writes slot.now (states_at self.old from.now) self.old self.new }
     {
         let count = self.owners[slot.owner as usize].kinds.len();
