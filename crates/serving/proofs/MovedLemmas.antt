@@ -10,12 +10,12 @@ use Rattle.outside.specs.Files.{Files}
 use Rattle.values.specs.declared.value.Value.{Value}
 use Rattle.agg_laws.specs.Numbers.{most_values}
 use Rattle.table_schema.specs.ValidTable.{IsValidTable}
-use Rattle.table_schema.specs.declared.query.BoundQuery.{BoundQuery}
+use Rattle.table_schema.specs.declared.query.Agg.{Agg}
 use Rattle.table_schema.specs.declared.table.Table.{Table}
-use Rattle.state_pool.specs.Pool.{Place, Pool, kinds_at, slots_of, states_at}
+use Rattle.state_pool.specs.Pool.{Place, Pool, SetsKinds, kinds_at, slots_of, states_at}
 use Rattle.group_table.specs.Groups.{groups_of}
 use Rattle.group_table.specs.Kept.{IsTableOf, KeptGroups, groups_in}
-use Rattle.group_table.specs.Pooled.{IsTableIn, KeepsOthers, PooledTable, StaysIn, in_pool}
+use Rattle.group_table.specs.Pooled.{HoldsAll, IsTableIn, KeepsOthers, PooledTable, StaysIn, in_pool}
 use Rattle.group_table.specs.Saved.{HasSaved, IsHeldBeside, KeepsBut, SavedSlots}
 use Rattle.group_table.specs.Shape.{shape_of}
 use Rattle.scan_engine.specs.Scanned.{HaveAtMost, selected}
@@ -32,7 +32,7 @@ use Rattle.serving.specs.Answered.{AnswersRows, IsOverfull, IsSavedBy, next_stor
 use Rattle.serving.specs.Kept.{IsCursorIn, IsOver, IsPool, KeepsAside, keeper}
 use Rattle.serving.specs.declared.cursor.Cursor.{Cursor}
 use Rattle.serving.proofs.AddedLemmas.{added_rows, over_so, overfull_rows}
-use Rattle.serving.proofs.PoolLemmas.{aside_both, aside_first, aside_of, aside_second, same_in, slots_still, states_still, still_in}
+use Rattle.serving.proofs.PoolLemmas.{aside_both, aside_first, aside_of, aside_second, entries_still, holds_still, same_in, slots_still, states_still, still_in}
 use Rattle.serving.proofs.StoredLemmas.{AreThere, stored_names}
 
 -- ---- the segments that come next
@@ -196,3 +196,36 @@ module _ (pool : Pool) (c : Cursor) (to : ℕ) (own : IsCursorIn pool c) (next :
             by other ne false is =
                 restores.others other (λ e. eqb-false other c.groups.owner is (e ∙ stays.owner)) (λ e. ne (e ∙ is_saved.owner))
                 ∙ stays.keeps.others other (eqb-false other c.groups.owner is) ∙ keeps.slots other ne ne
+
+-- ---- the groups of a cursor that is saved
+
+module _ (old mid new : Pool) (c : Cursor) (own : IsCursorIn old c) (sets : SetsKinds keeper (map (λ (a : Agg). a.kind) c.query.aggs) old mid) where
+  no_keeper_of : c.groups.owner ≢ keeper
+  no_keeper_of is = let lt = own.owner in omega (arith, lt, is)
+
+  pub holds_mid : HoldsAll c.groups mid
+  holds_mid = holds_still c.groups old mid sets.quotas (sets.others c.groups.owner no_keeper_of) (sets.slots c.groups.owner) own.table.holds
+
+  pub kinds_mid : kinds_at mid keeper ≡ kinds_at mid c.groups.owner
+  kinds_mid = sets.own ∙ sym own.of_query.kinds ∙ sym (sets.others c.groups.owner no_keeper_of)
+
+  pub sets_aside : KeepsAside keeper keeper old mid
+  sets_aside = record {
+    quotas = sets.quotas;
+    width = sets.width;
+    kinds = λ other ne no. sets.others other ne;
+    slots = λ other ne no. sets.slots other;
+  }
+
+  pub saved_aside : KeepsOthers keeper mid new → KeepsAside keeper keeper old new
+  saved_aside keeps = aside_both keeper keeper old mid new sets_aside (aside_first keeper keeper mid new keeps)
+
+  pub is_saved_by : (saved : SavedSlots) → saved.owner ≡ keeper → IsHeldBeside c.groups new saved → HasSaved c.groups mid new saved → IsSavedBy c old new saved
+  is_saved_by saved owner beside has = record {
+    owner = owner;
+    beside = beside;
+    states = record {
+      table = own.table.holds;
+      states = has.states ∙ entries_still c.groups.owner old mid (sets.slots c.groups.owner) c.groups.slots own.table.holds.each;
+    };
+  }

@@ -1,5 +1,17 @@
+use Rattle.std.proofs.Common.{ap, Err}
+use Rattle.outside.specs.Seen.{Seen, seen}
+use Rattle.sql_reply.specs.declared.fault.SqlFault.TheVariants.{NoMemory}
+use Rattle.query_executor.specs.declared.fault.ExecutorFault.TheVariants.{Sql}
+use Rattle.query_executor.proofs.EndLemmas.{gives_fault}
+use Rattle.query_executor.proofs.PassLemmas.{pass_unread}
 use Rattle.serving.proofs.AddedLemmas.{added_so, ok_so}
 use Rattle.serving.proofs.adding.add_all.Goals as goal
+
+pub returns-in_err-spare-clause-passes : goal.returns-in_err-spare-clause-passes
+returns-in_err-spare-clause-passes g c =
+    let a : Seen = seen g.S.Shelf c.args.shelf.now in
+    let r = c.from_residual.result in
+    pass_unread c.args.query.now c.args.table.now c.args.stored.now c.docs_bound_law.ensures.bound c.requires.begins.over.of_table.valid _ r a (gives_fault _ r (Sql NoMemory) c.from_residual.ensures.1)
 
 pub returns-clause-added : goal.returns-clause-added
 returns-clause-added g c =
