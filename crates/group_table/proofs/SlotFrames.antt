@@ -7,10 +7,8 @@ use Rattle.std.specs.Cmp.{nat_cmp_total}
 use Rattle.std.specs.Ordering.{nat_cmp, eq_by_cmp}
 use Rattle.std.specs.List.{AllByRecursion, IsDistinct}
 use Rattle.agg_laws.specs.declared.states.AggState.{AggState}
-use Rattle.agg_laws.specs.Rows.{units_of}
-use Rattle.state_pool.specs.Pool.{Pool, Place, Slots, Changes, Writes, Takes, GivesBack, IsOut, held, kinds_at, quota_of, slots_of, states_at}
-use Rattle.state_pool.proofs.SlotLemmas.{put_here, put_there, gone_there, same_slots}
-use Rattle.values.specs.declared.value.Value.{Value}
+use Rattle.state_pool.specs.Pool.{Pool, Place, Slots, Changes, Writes, GivesBack, IsOut, held, kinds_at, quota_of, slots_of, states_at}
+use Rattle.state_pool.proofs.SlotLemmas.{put_here, put_there, gone_there}
 use Rattle.group_table.specs.Pooled.{PooledTable, IsSlotOf, IsTableIn, KeepsOthers, StaysIn, Extends, with_slots}
 
 -- ---- numbers

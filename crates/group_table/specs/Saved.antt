@@ -1,5 +1,5 @@
 -- The groups of a table as they were, whose states are in slots of another owner too.
-use Rattle.std.specs.Prelude.{◌≡◌, ◌≢◌, ℕ, ◌<◌, ◌≤◌, nat_eq, List, length, map}
+use Rattle.std.specs.Prelude.{◌≡◌, ◌≢◌, ℕ, ◌<◌, nat_eq, List, length, map}
 use Rattle.std.specs.List.{AllByRecursion, IsDistinct}
 use Rattle.state_pool.specs.Pool.{Pool, Place, held, kinds_at, slots_of, states_at}
 use Rattle.group_table.specs.Pooled.{PooledTable, HoldsAll, IsSlotOf}

@@ -3,6 +3,7 @@ use Rattle.std.proofs.Common.{◌≡◌, ◌≢◌, ◌⊎◌, ◌∙◌, ◌+�
 use Rattle.std.specs.Prelude.{MatchResult}
 use Rattle.std.specs.List.{onto_first, slice_split}
 use Rattle.std.specs.Str.Lines.{lines, lines_of_parts}
+use Rattle.std.proofs.lemmas.Bool.Decides.{nat_tests}
 use Rattle.std.proofs.lemmas.Iterator.{YieldsList}
 use denote.Ref.{Bor}
 use Rattle.outside.specs.Seen.{Heard}
@@ -54,6 +55,12 @@ number_small number text le short = small number (length (lines text)) (length t
     small n l t a b c = omega (arith, a, b, c)
 
 -- ---- one line
+
+pub none_there : (line : List ℕ) → length line ≡ 0 → has_bytes line ≡ false
+none_there line is = grind (arith, nat_tests, is)
+
+pub some_there : (line : List ℕ) → 1 ≤ length line → has_bytes line ≡ true
+some_there line le = grind (arith, nat_tests, le)
 
 -- after the mark a line leads on, or it was the last
 pub mark_led : (number : ℕ) (line : List ℕ) (old between : Stage Kept) (said : Status) → ServesLine number line old said between → is_fault said ≡ false → (result : Result (Unit {0}) Status) (out notes : Heard) → GivesMark said between.out out between.notes notes result

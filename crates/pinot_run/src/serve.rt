@@ -15,7 +15,7 @@ use crate::script::{give_mark, is_fault, words_in};
 use command_words::{Status, Stop};
 use commands::script::open_script;
 use outside::{Bytes, Depot, Shelf, Sink};
-use serve_lines::{Session, answer_line, begin, finish};
+use serve_lines::{Session, answer_line, begin, finish, count_line};
 use std::alloc::Global;
 
 /// Runs the lines of a file, one after another, and gives a mark after each. At the end each cursor
@@ -82,8 +82,7 @@ fn end<D: Depot, N: Sink>(
     }
 }
 
-// Runs the lines of a text, up to a fault or to the end. They are numbered from 1, the empty ones
-// too.
+// Runs the lines of a text, up to a fault or to the end.
 fn serve_lines<I: Shelf, D: Depot, O: Sink, N: Sink>(
     alloc: Global,
     text: &str,
@@ -102,12 +101,11 @@ fn serve_lines<I: Shelf, D: Depot, O: Sink, N: Sink>(
         (world I.Shelf D.Shelf O.Sink N.Sink inputs.new depot.new out.new notes.new)) }
     ensures session { IsSession session.new }
 {
-    let mut number: u32 = 0;
+    let mut count: u32 = 0;
     'lines: for line in text.lines() {
-        number += 1;
-        if line.is_empty() {
+        let Some(number) = count_line(&mut count, line) else {
             continue;
-        }
+        };
         match serve_line(alloc, number, line, session, inputs, depot, out, notes) {
             Ok(()) => {}
             Err(ended) => return Err(ended),

@@ -4,6 +4,7 @@
 mod batch;
 mod cursor;
 mod line;
+mod number;
 mod reply;
 mod rows;
 mod session;
@@ -11,4 +12,5 @@ mod stop;
 
 pub use batch::{begin, finish};
 pub use line::answer_line;
+pub use number::count_line;
 pub use session::Session;

@@ -1,10 +1,9 @@
-use Rattle.std.proofs.Common.{◌≡◌, ◌∙◌, ◌≤◌, ◌<◌, ◌^◌, ℕ, List, [], ◌∷◌, length, map, sum, get_or, sym, ap, subst, arith, rules, OnOk, IfOk}
+use Rattle.std.proofs.Common.{◌≡◌, ◌∙◌, ◌≤◌, ◌<◌, ℕ, List, [], ◌∷◌, length, map, get_or, sym, ap, subst, arith, rules}
 use Rattle.std.proofs.lemmas.Result.{IfOk-weaker}
 use Rattle.std.specs.FinMap as finite
 use Rattle.std.specs.Ordering.{nat_cmp}
 use Rattle.agg_laws.specs.declared.states.AggState.{AggState}
-use Rattle.state_pool.specs.Pool.{Pool, quota_of}
-use Rattle.group_table.specs.QueryPool.{IsPoolFor, Limits}
+use Rattle.group_table.specs.QueryPool.{Limits}
 use Rattle.group_table.proofs.query_pool.pool_for.Goals as goal
 
 pub returns : goal.returns

@@ -1,7 +1,6 @@
-use Rattle.std.proofs.Common.{◌≡◌, ◌∙◌, ◌≤◌, length, slice_get, [], ◌∷◌, ◌++◌, sym, ap, subst, arith}
-use Rattle.state_pool.specs.Pool.{Pool, Place}
-use Rattle.group_table.specs.Pooled.{PooledTable, Extends, with_slots}
-use Rattle.group_table.specs.Saved.{SavedSlots, HasSaved}
+use Rattle.std.proofs.Common.{◌≡◌, ◌∙◌, ◌≤◌, length, slice_get, sym, ap, subst, arith}
+use Rattle.group_table.specs.Pooled.{PooledTable, with_slots}
+use Rattle.group_table.specs.Saved.{SavedSlots}
 use Rattle.group_table.specs.contracts.table.GroupTable.{the_view}
 use Rattle.group_table.proofs.SavedSteps as steps
 use Rattle.group_table.proofs.table.GroupTable.restore.Goals as goal

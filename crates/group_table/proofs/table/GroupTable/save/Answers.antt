@@ -1,4 +1,4 @@
-use Rattle.std.proofs.Common.{◌≡◌, ◌∙◌, ◌+◌, ◌<◌, ◌≤◌, List, length, slice_get, Some, refl, sym, ap, subst, arith, rules}
+use Rattle.std.proofs.Common.{◌≡◌, ◌∙◌, ◌+◌, ◌<◌, ◌≤◌, List, length, slice_get, refl, sym, ap, subst, arith, rules}
 use Rattle.std.specs.Prelude.{vec_capacity}
 use Rattle.state_pool.specs.Pool.{Place}
 use Rattle.group_table.specs.Pooled.{PooledTable}
