@@ -13,7 +13,7 @@ use Rattle.table_schema.specs.declared.table.Table.{Table}
 use Rattle.state_pool.specs.Pool.{Pool}
 use Rattle.group_table.specs.Groups.{Adds, Groups, groups_of}
 use Rattle.group_table.specs.Kept.{IsNew, IsTable, KeptGroups, groups_in}
-use Rattle.group_table.specs.Pooled.{in_pool}
+use Rattle.group_table.specs.Pooled.{PooledTable, in_pool}
 use Rattle.group_table.specs.Shape.{Shape, shape_of}
 use Rattle.group_table.proofs.GroupsLemmas.{of_both, one}
 use Rattle.group_table.proofs.KeptLemmas.{len_once}
@@ -41,14 +41,20 @@ pub within_most : (t : KeptGroups) → IsTable t → finite.len (groups_in t) �
 within_most t table = let same = len_once t.groups table.once in let le = table.at_most in omega (arith, same, le)
 
 module _ (query : BoundQuery) (table : Table) (held : Option Files) (stored : List Stored) where
-  -- what a pass adds, in the pool that was lent to it
-  pub added_so : (old new : Pass) (pool : Pool) → old.pool ≡ pool → IsPassOver query table held stored old new → AddsAll query table held stored (in_pool old.groups pool) (kept_by new)
-  added_so old new pool is made = subst (λ p. AddsAll query table held stored (in_pool old.groups p) (kept_by new)) is (record {
+  -- what a pass adds to the groups that were lent to it, in the pool that was lent to it
+  pub added_so : (old new : Pass) (groups : PooledTable) (pool : Pool) → old.groups ≡ groups → old.pool ≡ pool → IsPassOver query table held stored old new
+      → AddsAll query table held stored (in_pool groups pool) (kept_by new)
+  added_so old new groups pool same is made = subst (λ p. AddsAll query table held stored (in_pool groups p) (kept_by new)) is
+      (subst (λ t. AddsAll query table held stored (in_pool t old.pool) (kept_by new)) same (record {
     of_query = made.of_query;
     most = made.most;
     fits = made.fits;
     groups = made.groups;
-  })
+  }))
+
+  pub overfull_so : (old : Pass) (groups : PooledTable) (pool : Pool) → old.groups ≡ groups → old.pool ≡ pool → AreOverfull query table held stored (kept_by old) → AreOverfull query table held stored (in_pool groups pool)
+  overfull_so old groups pool same is over = subst (λ p. AreOverfull query table held stored (in_pool groups p)) is
+      (subst (λ t. AreOverfull query table held stored (in_pool t old.pool)) same over)
 
 -- what holds of the rows of segments
 pub over_so : (table : Table) (held : Option Files) (stored : List Stored) (P Q : List (List Value) → Type 0) → ((rows : List (List Value)) → P rows → Q rows) → OverRows table held stored P → OverRows table held stored Q

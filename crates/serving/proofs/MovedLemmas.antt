@@ -1,6 +1,6 @@
 -- A cursor once rows were added to its groups, or once they are again as they were saved.
 use Rattle.std.proofs.Common.{◌≡◌, ◌≢◌, ◌∙◌, ◌+◌, ◌*◌, ◌-◌, ◌<◌, ◌≤◌, ◌++◌, ℕ, zero, suc, Bool, true, false, nat_eq, List, [], ◌∷◌, drop, get_or, length, map, take, Option, Some, None, Result, Ok, Err, refl, sym, ap, subst, arith}
-use Rattle.std.specs.Prelude.{is_some}
+use Rattle.std.specs.Prelude.{IfOk, is_some}
 use Rattle.std.specs.FinMap as finite
 use borrow.Author.Tests.{eqb-false, eqb-true}
 use Rattle.std.specs.List.{All, AllByRecursion}
@@ -229,3 +229,7 @@ module _ (old mid new : Pool) (c : Cursor) (own : IsCursorIn old c) (sets : Sets
       states = has.states ∙ entries_still c.groups.owner old mid (sets.slots c.groups.owner) c.groups.slots own.table.holds.each;
     };
   }
+
+  pub ok_saved : {E : Type 0} (r : Result SavedSlots E) → IfOk r (λ saved. saved.owner ≡ keeper) → IfOk r (IsHeldBeside c.groups new) → IfOk r (HasSaved c.groups mid new) → IfOk r (IsSavedBy c old new)
+  ok_saved (Ok saved) owner beside has = is_saved_by saved owner beside has
+  ok_saved (Err e) owner beside has = tt

@@ -4,7 +4,7 @@ use Rattle.sql_reply.specs.declared.fault.SqlFault.TheVariants.{NoMemory}
 use Rattle.query_executor.specs.declared.fault.ExecutorFault.TheVariants.{Sql}
 use Rattle.query_executor.proofs.EndLemmas.{gives_fault}
 use Rattle.query_executor.proofs.PassLemmas.{pass_unread}
-use Rattle.serving.proofs.AddedLemmas.{added_so, ok_so}
+use Rattle.serving.proofs.AddedLemmas.{added_so, ok_so, overfull_so}
 use Rattle.serving.proofs.adding.add_all.Goals as goal
 
 pub returns-in_err-spare-clause-passes : goal.returns-in_err-spare-clause-passes
@@ -15,4 +15,8 @@ returns-in_err-spare-clause-passes g c =
 
 pub returns-clause-added : goal.returns-clause-added
 returns-clause-added g c =
-    ok_so c.pass_over-done.result _ _ (λ made. added_so c.args.query.now c.args.table.now (g.S.Shelf.held c.args.shelf.now) c.args.stored.now _ c.pass_over-done.new.pass c.args.pool.now c.replace-2.ensures.value made) c.pass_over-done.ensures.made
+    ok_so c.pass_over-done.result _ _ (λ made. added_so c.args.query.now c.args.table.now (g.S.Shelf.held c.args.shelf.now) c.args.stored.now _ c.pass_over-done.new.pass c.args.groups.now c.args.pool.now c.replace.ensures.value c.replace-2.ensures.value made) c.pass_over-done.ensures.made
+
+pub returns-clause-refused : goal.returns-clause-refused
+returns-clause-refused g c = λ fault is real.
+    overfull_so c.args.query.now c.args.table.now (g.S.Shelf.held c.args.shelf.now) c.args.stored.now _ c.args.groups.now c.args.pool.now c.replace.ensures.value c.replace-2.ensures.value (c.pass_over-done.ensures.refused fault is real).1
