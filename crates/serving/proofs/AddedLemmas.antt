@@ -46,15 +46,15 @@ module _ (query : BoundQuery) (table : Table) (held : Option Files) (stored : Li
       → AddsAll query table held stored (in_pool groups pool) (kept_by new)
   added_so old new groups pool same is made = subst (λ p. AddsAll query table held stored (in_pool groups p) (kept_by new)) is
       (subst (λ t. AddsAll query table held stored (in_pool t old.pool) (kept_by new)) same (record {
-    of_query = made.of_query;
-    most = made.most;
-    fits = made.fits;
-    groups = made.groups;
-  }))
+        of_query = made.of_query;
+        most = made.most;
+        fits = made.fits;
+        groups = made.groups;
+      }))
 
-  pub overfull_so : (old : Pass) (groups : PooledTable) (pool : Pool) → old.groups ≡ groups → old.pool ≡ pool → AreOverfull query table held stored (kept_by old) → AreOverfull query table held stored (in_pool groups pool)
-  overfull_so old groups pool same is over = subst (λ p. AreOverfull query table held stored (in_pool groups p)) is
-      (subst (λ t. AreOverfull query table held stored (in_pool t old.pool)) same over)
+  pub overfull_so : (lent groups : PooledTable) (own pool : Pool) → lent ≡ groups → own ≡ pool → AreOverfull query table held stored (in_pool lent own) → AreOverfull query table held stored (in_pool groups pool)
+  overfull_so lent groups own pool same is over = subst (λ p. AreOverfull query table held stored (in_pool groups p)) is
+      (subst (λ t. AreOverfull query table held stored (in_pool t own)) same over)
 
 -- what holds of the rows of segments
 pub over_so : (table : Table) (held : Option Files) (stored : List Stored) (P Q : List (List Value) → Type 0) → ((rows : List (List Value)) → P rows → Q rows) → OverRows table held stored P → OverRows table held stored Q

@@ -82,11 +82,7 @@ pub(crate) fn answer_to<S: Shelf>(
 }
 
 // The groups of a cursor as they are.
-fn saved_of(
-    alloc: Global,
-    cursor: &Cursor,
-    pool: &mut SlotPool,
-) -> Result<SavedGroups, NoMemory>
+fn saved_of(alloc: Global, cursor: &Cursor, pool: &mut SlotPool) -> Result<SavedGroups, NoMemory>
     requires pool { IsPool pool.old × (held pool.old keeper ≡ 0) }
     requires cursor { IsCursorIn pool.old cursor.now }
     requires few { length cursor.now.query.aggs ≤ 16 }

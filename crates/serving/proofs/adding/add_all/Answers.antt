@@ -19,4 +19,4 @@ returns-clause-added g c =
 
 pub returns-clause-refused : goal.returns-clause-refused
 returns-clause-refused g c = λ fault is real.
-    overfull_so c.args.query.now c.args.table.now (g.S.Shelf.held c.args.shelf.now) c.args.stored.now _ c.args.groups.now c.args.pool.now c.replace.ensures.value c.replace-2.ensures.value (c.pass_over-done.ensures.refused fault is real).1
+    overfull_so c.args.query.now c.args.table.now (g.S.Shelf.held c.args.shelf.now) c.args.stored.now _ c.args.groups.now _ c.args.pool.now c.replace.ensures.value c.replace-2.ensures.value (c.pass_over-done.ensures.refused fault is real).1

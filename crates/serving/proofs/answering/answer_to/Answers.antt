@@ -1,18 +1,17 @@
-use Rattle.std.proofs.Common.{◌≡◌, ◌∙◌, ◌-◌, take, drop, Ok, Err, sym, ap, subst}
+use Rattle.std.proofs.Common.{◌≡◌, ◌∙◌, ◌-◌, take, drop, sym, ap, subst}
 use Rattle.outside.specs.Seen.{Seen, seen}
 use Rattle.sql_reply.specs.declared.fault.SqlFault.TheVariants.{NoMemory}
-use Rattle.state_pool.specs.Pool.{held, slots_of}
+use Rattle.state_pool.specs.Pool.{held}
 use Rattle.group_table.specs.Pooled.{KeepsOthers, PooledTable, in_pool}
 use Rattle.query_executor.specs.Passes.{CanBegin, PassReads}
 use Rattle.query_executor.specs.Steps.{AreOverfull}
 use Rattle.query_executor.specs.declared.fault.ExecutorFault.{ExecutorFault}
 use Rattle.query_executor.specs.declared.fault.ExecutorFault.TheVariants.{Sql}
 use Rattle.query_executor.proofs.EndLemmas.{Done, Failed, gives_fault}
-use Rattle.query_executor.proofs.PassLemmas.{pass_done, pass_failed, pass_unread}
+use Rattle.query_executor.proofs.PassLemmas.{pass_unread}
 use Rattle.serving.specs.Added.{AddsAll, stored_in}
 use Rattle.serving.specs.Answered.{next_stored}
-use Rattle.serving.specs.Kept.{IsCursorIn, KeepsAside, keeper}
-use Rattle.serving.specs.declared.cursor.Cursor.{Cursor}
+use Rattle.serving.specs.Kept.{IsCursorIn, keeper}
 use Rattle.serving.proofs.MovedLemmas.{answers_next, back_aside, begins, beside_after, moved_aside, moved_in, no_more, overfull_next, saved_after, table_mid}
 use Rattle.serving.proofs.PlaceLemmas.{still_cursor}
 use Rattle.serving.proofs.PoolLemmas.{aside_of}
