@@ -1,9 +1,9 @@
 -- A cursor once rows were added to its groups, or once they are again as they were saved.
-use Rattle.std.proofs.Common.{◌≡◌, ◌≢◌, ◌∙◌, ◌+◌, ◌*◌, ◌-◌, ◌<◌, ◌≤◌, ◌++◌, ℕ, zero, suc, Bool, true, false, nat_eq, List, [], ◌∷◌, drop, get_or, length, map, take, Option, Some, None, Result, Ok, Err, refl, sym, ap, subst, arith}
+use Rattle.std.proofs.Common.{◌≡◌, ◌≢◌, ◌∙◌, ◌+◌, ◌*◌, ◌-◌, ◌<◌, ◌≤◌, ◌++◌, ℕ, zero, suc, Bool, true, false, nat_eq, List, [], ◌∷◌, drop, get_or, length, map, take, Option, Result, Ok, Err, refl, sym, ap, subst, arith}
 use Rattle.std.specs.Prelude.{IfOk, is_some}
 use Rattle.std.specs.FinMap as finite
 use borrow.Author.Tests.{eqb-false, eqb-true}
-use Rattle.std.specs.List.{All, AllByRecursion}
+use Rattle.std.specs.List.{All}
 use Rattle.std.proofs.lemmas.List.{length-append, length-drop, length-map, length-take-le}
 use Rattle.std.proofs.lemmas.List.Elements.{All-drop, All-take}
 use Rattle.outside.specs.Files.{Files}
@@ -15,7 +15,7 @@ use Rattle.table_schema.specs.declared.table.Table.{Table}
 use Rattle.state_pool.specs.Pool.{Place, Pool, SetsKinds, kinds_at, slots_of, states_at}
 use Rattle.group_table.specs.Groups.{groups_of}
 use Rattle.group_table.specs.Kept.{IsTableOf, KeptGroups, groups_in}
-use Rattle.group_table.specs.Pooled.{HoldsAll, IsTableIn, KeepsOthers, PooledTable, StaysIn, in_pool}
+use Rattle.group_table.specs.Pooled.{IsTableIn, KeepsOthers, PooledTable, StaysIn, in_pool}
 use Rattle.group_table.specs.Saved.{HasSaved, IsHeldBeside, KeepsBut, SavedSlots}
 use Rattle.group_table.specs.Shape.{shape_of}
 use Rattle.scan_engine.specs.Scanned.{HaveAtMost, selected}
@@ -27,12 +27,12 @@ use Rattle.query_executor.specs.Passes.{CanBegin, IsQueryOver}
 use Rattle.query_executor.specs.Steps.{AreOverfull}
 use Rattle.cursor_serve.specs.Machine.{most_cursor_groups}
 use Rattle.cursor_serve.proofs.SoundLemmas.{all_drop}
-use Rattle.serving.specs.Added.{AddsAll, OverRows, stored_in}
+use Rattle.serving.specs.Added.{AddsAll, stored_in}
 use Rattle.serving.specs.Answered.{AnswersRows, IsOverfull, IsSavedBy, next_stored}
 use Rattle.serving.specs.Kept.{IsCursorIn, IsOver, IsPool, KeepsAside, keeper}
 use Rattle.serving.specs.declared.cursor.Cursor.{Cursor}
 use Rattle.serving.proofs.AddedLemmas.{added_rows, over_so, overfull_rows}
-use Rattle.serving.proofs.PoolLemmas.{aside_both, aside_first, aside_of, aside_second, entries_still, holds_still, same_in, slots_still, states_still, still_in}
+use Rattle.serving.proofs.PoolLemmas.{aside_both, aside_first, aside_of, aside_second, entries_still, same_in, slots_still, states_still, still_in}
 use Rattle.serving.proofs.StoredLemmas.{AreThere, stored_names}
 
 -- ---- the segments that come next
@@ -178,9 +178,6 @@ module _ (pool : Pool) (c : Cursor) (to : ℕ) (own : IsCursorIn pool c) (next :
             let same = saved_long in
             omega (arith, long, same)
 
-        pub kinds_back : kinds_at pool c.groups.owner ≡ kinds_at after u.owner
-        kinds_back = sym (keeps.kinds c.groups.owner apart apart) ∙ sym (kinds_after c.groups.owner) ∙ ap (kinds_at after) (sym stays.owner)
-
         pub back_aside : (new : Pool) → slots_of new u.owner ≡ slots_of pool c.groups.owner → KeepsBut u.owner saved.owner after new → KeepsAside keeper keeper pool new
         back_aside new own_back restores = record {
           quotas = restores.quotas ∙ stays.keeps.quotas ∙ keeps.quotas;
@@ -200,26 +197,6 @@ module _ (pool : Pool) (c : Cursor) (to : ℕ) (own : IsCursorIn pool c) (next :
 -- ---- the groups of a cursor that is saved
 
 module _ (old mid new : Pool) (c : Cursor) (own : IsCursorIn old c) (sets : SetsKinds keeper (map (λ (a : Agg). a.kind) c.query.aggs) old mid) where
-  no_keeper_of : c.groups.owner ≢ keeper
-  no_keeper_of is = let lt = own.owner in omega (arith, lt, is)
-
-  pub holds_mid : HoldsAll c.groups mid
-  holds_mid = holds_still c.groups old mid sets.quotas (sets.others c.groups.owner no_keeper_of) (sets.slots c.groups.owner) own.table.holds
-
-  pub kinds_mid : kinds_at mid keeper ≡ kinds_at mid c.groups.owner
-  kinds_mid = sets.own ∙ sym own.of_query.kinds ∙ sym (sets.others c.groups.owner no_keeper_of)
-
-  pub sets_aside : KeepsAside keeper keeper old mid
-  sets_aside = record {
-    quotas = sets.quotas;
-    width = sets.width;
-    kinds = λ other ne no. sets.others other ne;
-    slots = λ other ne no. sets.slots other;
-  }
-
-  pub saved_aside : KeepsOthers keeper mid new → KeepsAside keeper keeper old new
-  saved_aside keeps = aside_both keeper keeper old mid new sets_aside (aside_first keeper keeper mid new keeps)
-
   pub is_saved_by : (saved : SavedSlots) → saved.owner ≡ keeper → IsHeldBeside c.groups new saved → HasSaved c.groups mid new saved → IsSavedBy c old new saved
   is_saved_by saved owner beside has = record {
     owner = owner;

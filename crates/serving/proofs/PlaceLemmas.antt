@@ -14,13 +14,13 @@ use Rattle.table_schema.specs.declared.table.Table.{Table}
 use Rattle.serving.specs.Answered.{IsMoved}
 use Rattle.state_pool.specs.Pool.{Pool, Slots, held, kinds_at, quota_of, slots_of}
 use Rattle.group_table.specs.Kept.{IsTableOf, KeptGroups, groups_in}
-use Rattle.group_table.specs.Pooled.{KeepsOthers, PooledTable, in_pool}
+use Rattle.group_table.specs.Pooled.{in_pool}
 use Rattle.scan_engine.specs.Scanned.{HaveAtMost}
 use Rattle.cursor_serve.specs.ServingStands.{OpenCursor, kept_under}
 use Rattle.cursor_serve.proofs.FetchLemmas.{itself, tied}
 use Rattle.serving.specs.Kept.{AreCursors, IsCursorIn, IsOver, IsPool, KeepsAside, cursor_in, cursors_in, keeper, owners_of, place_under, same_name}
 use Rattle.serving.specs.declared.cursor.Cursor.{Cursor}
-use Rattle.serving.proofs.PoolLemmas.{aside_both, aside_first, same_in, still_in}
+use Rattle.serving.proofs.PoolLemmas.{same_in, still_in}
 use Rattle.serving.proofs.StandLemmas.{PutsUnder}
 
 -- ---- at a place

@@ -3,7 +3,7 @@ use Rattle.std.proofs.Common.{◌≡◌, ◌≢◌, ◌∙◌, ℕ, ◌<◌, Lis
 use Rattle.std.specs.FinMap as finite
 use Rattle.std.specs.List.{AllByRecursion}
 use Rattle.values.specs.declared.value.Value.{Value}
-use Rattle.state_pool.specs.Pool.{Place, Pool, SetsKinds, Slots, held, kinds_at, quota_of, slots_of, states_at}
+use Rattle.state_pool.specs.Pool.{Place, Pool, Slots, held, kinds_at, quota_of, slots_of, states_at}
 use Rattle.group_table.specs.Kept.{IsTable}
 use Rattle.group_table.specs.Pooled.{HoldsAll, IsSlotOf, IsTableIn, KeepsOthers, PooledTable, group_in, in_pool}
 use Rattle.serving.specs.Kept.{KeepsAside}

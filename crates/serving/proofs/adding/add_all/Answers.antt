@@ -1,4 +1,3 @@
-use Rattle.std.proofs.Common.{ap, Err}
 use Rattle.outside.specs.Seen.{Seen, seen}
 use Rattle.sql_reply.specs.declared.fault.SqlFault.TheVariants.{NoMemory}
 use Rattle.query_executor.specs.declared.fault.ExecutorFault.TheVariants.{Sql}

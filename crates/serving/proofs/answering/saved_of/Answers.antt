@@ -1,4 +1,4 @@
-use Rattle.std.proofs.Common.{◌≡◌, ◌∙◌, map, ap, subst}
+use Rattle.std.proofs.Common.{◌∙◌, map, ap, subst}
 use Rattle.table_schema.specs.declared.query.Agg.{Agg}
 use Rattle.state_pool.specs.Pool.{SetsKinds}
 use Rattle.serving.specs.Kept.{keeper}
