@@ -28,13 +28,13 @@ use Rattle.cursor_serve.proofs.NumberedLemmas.{stays_numbered}
 use Rattle.cursor_serve.proofs.SoundLemmas.{stays_sound}
 use Rattle.serving.specs.Calls.{IsAnsweredAs, Serves}
 use Rattle.serving.specs.Closed.{AreGone, HasNoOther, IsGone, has_file, without_files}
-use Rattle.serving.specs.Kept.{AreCursors, IsCursorIn, KeepsAside, cursor_in, cursors_in, keeper, owners_of, place_under, same_name}
-use Rattle.serving.specs.declared.cursor.Cursor.{Cursor}
+use Rattle.cursors.specs.Kept.{AreCursors, IsCursorIn, KeepsAside, cursor_in, cursors_in, keeper, owners_of, place_under, same_name}
+use Rattle.cursors.specs.declared.cursor.Cursor.{Cursor}
 use Rattle.serving.specs.declared.fault.ServeFault.TheVariants as fault
 use Rattle.serving.proofs.CloseLemmas.{TakesUnder, closes_stand}
 use Rattle.serving.proofs.GoneLemmas.{gone_kept, left_got, left_of, left_stands, without_told}
 use Rattle.serving.proofs.PlaceLemmas.{AtPlace, IsOther, lower, no_place, no_suc, no_zero, place_kept, pool_still, rest_same, rest_still}
-use Rattle.serving.proofs.PoolLemmas.{aside_first}
+use Rattle.cursors.proofs.PoolLemmas.{aside_first}
 use Rattle.serving.proofs.StepLemmas.{IsFoundAs, found_as, none_kept}
 
 -- no cursor of the name

@@ -1,26 +1,21 @@
 -- The cursor at a place once it has moved on, among the others.
-use Rattle.std.proofs.Common.{◌≡◌, ◌≢◌, ◌∙◌, ◌+◌, ◌*◌, ◌<◌, ◌≤◌, ◌||◌, ℕ, zero, suc, Bool, true, false, cond, nat_eq, List, [], ◌∷◌, ◌++◌, length, map, get_or, set, take, Option, Some, None, refl, sym, ap, subst, arith}
+use Rattle.std.proofs.Common.{◌≡◌, ◌≢◌, ◌∙◌, ◌<◌, ◌≤◌, ◌||◌, ℕ, zero, suc, Bool, true, false, cond, nat_eq, List, [], ◌∷◌, length, map, get_or, set, Option, Some, None, refl, sym, ap, subst, arith}
 use Rattle.std.specs.List.{All, AllByRecursion, IsDistinct, list_any}
 use Rattle.std.specs.FinMap as finite
-use Rattle.std.specs.Ordering.{eq_by_cmp}
 use Rattle.std.specs.Option.{option_map}
 use borrow.Author.Tests.{eqb-true, eqb-false}
 use Rattle.std.proofs.lemmas.Bool.{false≢true}
 use Rattle.std.proofs.lemmas.Map.Keys.{IsDistinct-head, IsDistinct-tail}
-use Rattle.outside.specs.Files.{name_order}
 use Rattle.segment_file.specs.Names.{IsSegmentName}
 use Rattle.table_schema.specs.ValidQuery.{IsValidQuery}
 use Rattle.table_schema.specs.declared.table.Table.{Table}
-use Rattle.serving.specs.Answered.{IsMoved}
-use Rattle.state_pool.specs.Pool.{Pool, Slots, held, kinds_at, quota_of, slots_of}
-use Rattle.group_table.specs.Kept.{IsTableOf, KeptGroups, groups_in}
-use Rattle.group_table.specs.Pooled.{in_pool}
-use Rattle.scan_engine.specs.Scanned.{HaveAtMost}
+use Rattle.cursors.specs.Answered.{IsMoved}
+use Rattle.state_pool.specs.Pool.{Pool, held}
 use Rattle.cursor_serve.specs.ServingStands.{OpenCursor, kept_under}
-use Rattle.cursor_serve.proofs.FetchLemmas.{itself, tied}
-use Rattle.serving.specs.Kept.{AreCursors, IsCursorIn, IsOver, IsPool, KeepsAside, cursor_in, cursors_in, keeper, owners_of, place_under, same_name}
-use Rattle.serving.specs.declared.cursor.Cursor.{Cursor}
-use Rattle.serving.proofs.PoolLemmas.{same_in, still_in}
+use Rattle.cursor_serve.proofs.FetchLemmas.{tied}
+use Rattle.cursors.specs.Kept.{AreCursors, IsCursorIn, IsOver, IsPool, KeepsAside, cursor_in, cursors_in, keeper, owners_of, place_under, same_name}
+use Rattle.cursors.specs.declared.cursor.Cursor.{Cursor}
+use Rattle.cursors.proofs.StillLemmas.{no_keeper, seen_by_same, still_by}
 use Rattle.serving.proofs.StandLemmas.{PutsUnder}
 
 -- ---- at a place
@@ -70,39 +65,7 @@ lower (Some n) at e = let same : suc n ≡ suc at = cc in let one : n ≡ at = o
 
 -- ---- the others as they were
 
--- a cursor whose owner has what it had
-module _ (one two : ℕ) (old new : Pool) (keeps : KeepsAside one two old new) (d : Cursor) (ne : d.groups.owner ≢ one) (no : d.groups.owner ≢ two) (own : IsCursorIn old d) where
-  same_by : in_pool d.groups new ≡ in_pool d.groups old
-  same_by = same_in d.groups old new keeps.quotas (keeps.kinds d.groups.owner ne no) (keeps.slots d.groups.owner ne no) own.table.holds
-
-  still_by : IsCursorIn new d
-  still_by = record {
-    owner = own.owner;
-    owner_is = own.owner_is;
-    table = still_in d.groups old new keeps.quotas (keeps.kinds d.groups.owner ne no) (keeps.slots d.groups.owner ne no) own.table;
-    of_query = subst (IsTableOf d.query) (sym same_by) own.of_query;
-    fits = subst (λ (k : KeptGroups). HaveAtMost (d.answered * 1048576) (groups_in k)) (sym same_by) own.fits;
-    answered = own.answered;
-    few = own.few;
-    files = own.files;
-    there = own.there;
-  }
-
-  seen_by_same : cursor_in new d ≡ cursor_in old d
-  seen_by_same = λ i. record {
-    name = d.name;
-    query = d.query;
-    segments = d.segments;
-    answered = d.answered;
-    files = d.files.items;
-    groups = groups_in (same_by i);
-  }
-
--- the owner of a cursor is not that of the segments that are being answered
-no_keeper : (pool : Pool) (d : Cursor) → IsCursorIn pool d → d.groups.owner ≢ keeper
-no_keeper pool d own is = let lt = own.owner in omega (arith, lt, is)
-
--- nor are the quotas and the width others
+-- the quotas and the width are as they were
 pub pool_still : (one two : ℕ) (old new : Pool) → KeepsAside one two old new → IsPool old → IsPool new
 pool_still one two old new keeps is = record {
   owners = ap length keeps.quotas ∙ is.owners;
@@ -274,39 +237,11 @@ no_place pool name (d ∷ ds) none = none_by (same_name name d.name) (place_unde
 -- ---- where no owner of a cursor has changed anything
 
 module _ (old new : Pool) (keeps : KeepsAside keeper keeper old new) where
-  pub still_cursor : (d : Cursor) → IsCursorIn old d → IsCursorIn new d
-  still_cursor d own = let no = no_keeper old d own in still_by keeper keeper old new keeps d no no own
-
   pub all_same : (ds : List Cursor) → AllByRecursion (IsCursorIn old) ds → cursors_in new ds ≡ cursors_in old ds
   all_same [] own = refl
   all_same (d ∷ ds) own =
       let no = no_keeper old d own.0 in
       λ i. seen_by_same keeper keeper old new keeps d no no own.0 i ∷ all_same ds own.1 i
-
--- ---- a look through cursors for a name
-
-none_by_name : (b : Bool) (o : Option ℕ) → b ≡ false → o ≡ None → cond b (Some 0) (option_map suc o) ≡ None
-none_by_name b o is none = (λ i. cond (is i) (Some 0) (option_map suc (none i)))
-
-later_none : (b : Bool) (o : Option ℕ) → cond b (Some 0) (option_map suc o) ≡ None → (b ≡ false) × (o ≡ None)
-later_none true o is = absurd cc
-later_none false None is = (refl, refl)
-later_none false (Some n) is = absurd cc
-
--- none before has the name, and the one at the place has it
-pub found_at : (name : List ℕ) (ds : List Cursor) (at : ℕ) (c dflt : Cursor) → at < length ds → get_or ds at dflt ≡ c → place_under name (take at ds) ≡ None → same_name name c.name ≡ true → place_under name ds ≡ Some at
-found_at name [] at c dflt lt is none same = absurd (omega (arith, lt))
-found_at name (d ∷ ds) zero c dflt lt is none same = ap (λ b. cond b (Some 0) (option_map suc (place_under name ds))) (ap (λ (x : Cursor). same_name name x.name) is ∙ same)
-found_at name (d ∷ ds) (suc at) c dflt lt is none same =
-    let two = later_none (same_name name d.name) (place_under name (take at ds)) none in
-    (λ i. cond (two.0 i) (Some 0) (option_map suc (found_at name ds at c dflt (omega (arith, lt)) is two.1 same i)))
-
-pub none_next : (name : List ℕ) (ds : List Cursor) (at : ℕ) (c dflt : Cursor) → at < length ds → get_or ds at dflt ≡ c → place_under name (take at ds) ≡ None → same_name name c.name ≡ false → place_under name (take (suc at) ds) ≡ None
-none_next name [] at c dflt lt is none apart = refl
-none_next name (d ∷ ds) zero c dflt lt is none apart = none_by_name (same_name name d.name) None (ap (λ (x : Cursor). same_name name x.name) is ∙ apart) refl
-none_next name (d ∷ ds) (suc at) c dflt lt is none apart =
-    let two = later_none (same_name name d.name) (place_under name (take at ds)) none in
-    none_by_name (same_name name d.name) (place_under name (take (suc at) ds)) two.0 (none_next name ds at c dflt (omega (arith, lt)) is two.1 apart)
 
 -- ---- what holds of the cursor at a place, and of those that others are put in the place of
 

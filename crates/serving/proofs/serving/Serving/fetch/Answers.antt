@@ -5,11 +5,11 @@ use Rattle.query_executor.specs.Passes.{PassReads}
 use Rattle.std.proofs.Common.{◌≡◌, ◌∙◌, ◌-◌, ◌<◌, ◌≤◌, ℕ, List, Some, Ok, Err, get_or, length, set, sym, ap, subst, arith}
 use Rattle.outside.specs.Seen.{Seen, seen}
 use Rattle.cursor_serve.specs.Machine.{fetched}
-use Rattle.serving.specs.Answered.{AnswersRows, IsMoved, IsOverfull, next_stored}
+use Rattle.cursors.specs.Answered.{AnswersRows, IsMoved, IsOverfull, next_stored}
 use Rattle.serving.specs.Calls.{ReadsOf, Serves}
 use Rattle.serving.specs.Faults.{of_query}
-use Rattle.serving.specs.Kept.{AreCursors, IsCursorIn, IsOver, cursors_in, keeper, place_under}
-use Rattle.serving.specs.declared.cursor.Cursor.{Cursor}
+use Rattle.cursors.specs.Kept.{AreCursors, IsCursorIn, IsOver, cursors_in, keeper, place_under}
+use Rattle.cursors.specs.declared.cursor.Cursor.{Cursor}
 use Rattle.serving.specs.declared.fault.ServeFault.{ServeFault}
 use Rattle.serving.proofs.PlaceLemmas.{AtPlace, IsOther, all_same, at_place, cursors_aside, cursors_moved, each_at, each_set, keeper_free, over_moved, place_within, puts_moved, set_same}
 use Rattle.serving.proofs.StepLemmas.{IsBadAt, fetches_none, fetches_moved, fetches_failed}
