@@ -1,0 +1,45 @@
+-- What two cursors print that take turns while rows of a segment are replaced.
+use Rattle.std.specs.Prelude.{◌≡◌, ℕ, List, [], Option, None, Ok, IfSome, length}
+use Rattle.std.specs.FinMap as finite
+use Rattle.std.specs.List.{All}
+use Rattle.outside.specs.Files.{Files}
+use Rattle.values.specs.Columns as columns
+use Rattle.values.specs.declared.value.Value.{Value}
+use Rattle.table_schema.specs.ValidQuery.{IsValidQuery}
+use Rattle.table_schema.specs.ValidTable.{AreRows, IsValidTable}
+use Rattle.table_schema.specs.declared.query.BoundQuery.{BoundQuery}
+use Rattle.table_schema.specs.declared.table.Table.{Table}
+use Rattle.segment_file.specs.Ordered.{ordered}
+use Rattle.table_store.specs.Images.{IsUnicode}
+use Rattle.table_store.specs.Kept.{kept_name}
+use Rattle.table_store.specs.State.{Texts}
+use Rattle.cursor_serve.specs.Laws.{printed}
+use Rattle.cursor_serve.specs.Machine.{Live, Machine, cursor_reply, lists_of, rows_of}
+use Rattle.cursor_serve.specs.ServingStands.{ServingStands}
+use Rattle.embedded_example.specs.declared.months.Ready.{Ready}
+
+-- a text is the reply to a query over lists of rows
+abbrev pub IsReplyTo : BoundQuery → Live → List ℕ → Type 0
+IsReplyTo query live text = printed (cursor_reply query (rows_of (lists_of live))) ≡ Ok text
+
+-- the lists that are live once these rows are in the place of those of a segment
+abbrev pub live_with : Table → List ℕ → List (List Value) → Machine → Live
+live_with table name rows m = finite.insert m.live name
+    (record { number = m.next; rows = ordered table.settings.sorted rows })
+
+-- of two cursors each prints the reply to its own query over the rows that were live when it was
+-- opened: the one before the rows of a segment were replaced, and the other after that
+abbrev pub PrintOwn : Table → BoundQuery → BoundQuery → List ℕ → List (List Value) → Option Files
+    → List ℕ → List ℕ → Type 0
+PrintOwn table early late name rows before first second = IfSome before (λ files.
+    (texts : Texts) (m : Machine) → ServingStands [] files texts table m
+    → finite.get files (kept_name name 1) ≡ None → All (λ row. All IsUnicode row) rows
+    → IsReplyTo early m.live first × IsReplyTo late (live_with table name rows m) second)
+
+-- a query for each of two cursors over a table, and rows of its fields
+pub record IsReady (ready : Ready) : Type 0 where
+  pub table : IsValidTable ready.table
+  pub early : IsValidQuery ready.table ready.early
+  pub late : IsValidQuery ready.table ready.late
+  pub width : length ready.rows.columns ≡ length ready.table.schema.fields
+  pub rows : AreRows ready.table.schema.fields (columns.rows_of ready.rows)
