@@ -36,6 +36,6 @@ returns g c =
     let d8 : Option Files = g.D.Shelf.held c.fetch-2.new.shelf in
     let s1 = subst (λ ds. Serves (opened (codes "early") c.args.early) table (cursors_in c.in_ok-serving.serving.pool ds) c1 d0 d1 (Ok c.in_ok-open_cursor.field-0)) c.in_ok-serving.ensures.none c.in_ok-open_cursor.ensures.serves in
     turns c.fetched_law.ensures table c.args.early c.args.late c.args.name.now (rows_of c.args.rows) c1 c2 c3 c4 c5 c6 c7 c8 d0 d1 d2 d3 d4 d5 d6 d7 d8
-    c.in_ok-open_cursor.field-0 c.in_ok-step.field-0 c.in_ok-open_cursor-2.field-0 c.in_ok-step-2.field-0 c.in_ok-step-3.field-0 c.in_ok-second.second c.in_ok-first.first
+    c.in_ok-open_cursor.field-0 c.in_ok-step.field-0 c.in_ok-open_cursor-2.field-0 c.in_ok-step-2.field-0 c.in_ok-step-3.field-0 c.in_ok-first.first c.in_ok-second.second
     (c.in_ok-step.ensures.only_reads.held ∙ c.in_ok-open_cursor.ensures.looks.reads.held) s1 c.in_ok-step.ensures.serves c.in_ok-replace_live.ensures.serves
     c.in_ok-open_cursor-2.ensures.serves c.in_ok-step-2.ensures.serves c.in_ok-step-3.ensures.serves c.in_ok-second.ensures.serves c.in_ok-first.ensures.serves
