@@ -4,7 +4,7 @@ ghost use Rattle.values.specs.Columns.{rows_of};
 ghost use Rattle.table_schema.specs.ValidQuery.{IsValidQuery};
 ghost use Rattle.table_schema.specs.ValidTable.{AreRows, IsValidTable};
 ghost use Rattle.segment_file.specs.Names.{IsSegmentName};
-ghost use Rattle.embedded_example.specs.Turns.{PrintOwn};
+ghost use Rattle.embedded_example.specs.Turns.{LeavesReplaced, PrintOwn};
 
 use cursor_serve::fetched_law;
 use outside::{Bytes, Depot};
@@ -15,7 +15,7 @@ use values::Columns;
 
 /// The replies of two cursors that take turns, a segment each time. One is opened before the rows
 /// of a segment are replaced and one after that, and each answers over the rows that there were
-/// then.
+/// then. The store is left with the new rows.
 pub fn take_turns<D: Depot>(
     alloc: Global,
     depot: &mut D,
@@ -31,8 +31,10 @@ pub fn take_turns<D: Depot>(
     requires name { IsSegmentName name.now }
     requires width { length rows.columns ≡ length table.now.schema.fields }
     requires rows { AreRows table.now.schema.fields (rows_of rows) }
-    ensures { IfOk result (λ replies. PrintOwn table.now early late name.now (rows_of rows)
+    ensures prints { IfOk result (λ replies. PrintOwn table.now early late name.now (rows_of rows)
         (D.held depot.old) replies.0 replies.1) }
+    ensures leaves { IfOk result (λ _. LeavesReplaced table.now name.now (rows_of rows)
+        (D.held depot.old) (D.held depot.new)) }
 {
     fetched_law();
     let mut serving = Serving::new(alloc)?;
