@@ -48,6 +48,5 @@ pub fn take_turns<D: Depot>(
     let first = serving.fetch(alloc, depot, table, "early")?;
     serving.close(alloc, depot, "late")?;
     serving.close(alloc, depot, "early")?;
-    drop(serving);
     Ok((first, second))
 }
