@@ -145,34 +145,34 @@ block_bad place width count rows from to first now ids within step bad = by firs
 module _ (place : Place) (width count rows at : ℕ) (first now : Seen) (ids : List ℕ) where
   -- what is known before a block
   abbrev pub BlocksRead : Type 0
-  BlocksRead = BlockStep place width count (min (at * 8192) rows) first now ids
+  BlocksRead = BlockStep place width count (min (at * 32768) rows) first now ids
 
-  begun : at < rows / 8192 + 1 → BlocksRead → BlockStep place width count (at * 8192) first now ids
-  begun lt step = let from : min (at * 8192) rows ≡ at * 8192 = omega (arith, lt) in subst (λ n. BlockStep place width count n first now ids) from step
+  begun : at < rows / 32768 + 1 → BlocksRead → BlockStep place width count (at * 32768) first now ids
+  begun lt step = let from : min (at * 32768) rows ≡ at * 32768 = omega (arith, lt) in subst (λ n. BlockStep place width count n first now ids) from step
 
-  even : at * 8192 ≡ 8 * (at * 1024)
+  even : at * 32768 ≡ 8 * (at * 4096)
   even = omega arith
 
-  pub blocks_next : (to : ℕ) (next : Seen) (new : List ℕ) → at < rows / 8192 + 1 → to ≡ min (at * 8192 + 8192) rows → BlocksRead → OnlyReads ⊥ now next
-      → LogsOn place.file (place.offset + first_byte width (at * 8192)) (place.offset + end_byte width (at * 8192) to) now.log next.log → AppendsRange now.held place width count (at * 8192) to ids new
-      → BlockStep place width count (min ((at + 1) * 8192) rows) first next new
+  pub blocks_next : (to : ℕ) (next : Seen) (new : List ℕ) → at < rows / 32768 + 1 → to ≡ min (at * 32768 + 32768) rows → BlocksRead → OnlyReads ⊥ now next
+      → LogsOn place.file (place.offset + first_byte width (at * 32768)) (place.offset + end_byte width (at * 32768) to) now.log next.log → AppendsRange now.held place width count (at * 32768) to ids new
+      → BlockStep place width count (min ((at + 1) * 32768) rows) first next new
   blocks_next to next new lt is step reads logs appends =
-      let same : to ≡ min ((at + 1) * 8192) rows = omega (arith, is) in
+      let same : to ≡ min ((at + 1) * 32768) rows = omega (arith, is) in
       subst (λ n. BlockStep place width count n first next new) same
-      (block_next place width count (at * 1024) (at * 8192) to first now next ids new even (omega (arith, is, lt)) (begun lt step) reads logs appends)
+      (block_next place width count (at * 4096) (at * 32768) to first now next ids new even (omega (arith, is, lt)) (begun lt step) reads logs appends)
 
-  pub blocks_partly : (to : ℕ) (next : Seen) → at < rows / 8192 + 1 → to ≡ min (at * 8192 + 8192) rows → BlocksRead
-      → LogsUpTo place.file (place.offset + first_byte width (at * 8192)) (place.offset + end_byte width (at * 8192) to) now.log next.log
+  pub blocks_partly : (to : ℕ) (next : Seen) → at < rows / 32768 + 1 → to ≡ min (at * 32768 + 32768) rows → BlocksRead
+      → LogsUpTo place.file (place.offset + first_byte width (at * 32768)) (place.offset + end_byte width (at * 32768) to) now.log next.log
       → LogsUpTo place.file (place.offset + first_byte width 0) (place.offset + end_byte width 0 rows) first.log next.log
   blocks_partly to next lt is step logs =
-      block_partly place width count rows (at * 1024) (at * 8192) to first now next ids even (omega (arith, is, lt)) (omega (arith, is)) (begun lt step) logs
+      block_partly place width count rows (at * 4096) (at * 32768) to first now next ids even (omega (arith, is, lt)) (omega (arith, is)) (begun lt step) logs
 
-  pub blocks_bad : (to : ℕ) → at < rows / 8192 + 1 → to ≡ min (at * 8192 + 8192) rows → BlocksRead
-      → IfSome now.held (λ files. ¬ Readable width count (at * 8192) to (section files place)) → IfSome first.held (λ files. ¬ Readable width count 0 rows (section files place))
-  blocks_bad to lt is step bad = block_bad place width count rows (at * 8192) to first now ids (omega (arith, is)) (begun lt step) bad
+  pub blocks_bad : (to : ℕ) → at < rows / 32768 + 1 → to ≡ min (at * 32768 + 32768) rows → BlocksRead
+      → IfSome now.held (λ files. ¬ Readable width count (at * 32768) to (section files place)) → IfSome first.held (λ files. ¬ Readable width count 0 rows (section files place))
+  blocks_bad to lt is step bad = block_bad place width count rows (at * 32768) to first now ids (omega (arith, is)) (begun lt step) bad
 
-  pub blocks_end : rows / 8192 + 1 ≤ at → BlocksRead → BlockStep place width count rows first now ids
-  blocks_end ge step = let all : min (at * 8192) rows ≡ rows = omega (arith, ge) in subst (λ n. BlockStep place width count n first now ids) all step
+  pub blocks_end : rows / 32768 + 1 ≤ at → BlocksRead → BlockStep place width count rows first now ids
+  blocks_end ge step = let all : min (at * 32768) rows ≡ rows = omega (arith, ge) in subst (λ n. BlockStep place width count n first now ids) all step
 
 -- ids that take two bytes each where all ids of the column do have at most so many bits
 pub narrow_width : (count width : ℕ) (ids : IdRoom) → IsWidth count width → ((id : ℕ) → id < count → HasRoom ids id) → IsNarrow ids → width ≤ 16
@@ -189,7 +189,7 @@ blocks_none place width rows log =
     let begins : first_byte width 0 ≡ end_byte width 0 0 = begin_byte width 0 in
     (place.offset + first_byte width 0, omega (arith, least, begins), LogsThrough-none place.file (place.offset + first_byte width 0) log)
 
-pub blocks_start : (place : Place) (width count rows at : ℕ) (shelf : Seen) (ids : List ℕ) → at ≡ 0 → ids ≡ [] → BlockStep place width count (min (at * 8192) rows) shelf shelf ids
+pub blocks_start : (place : Place) (width count rows at : ℕ) (shelf : Seen) (ids : List ℕ) → at ≡ 0 → ids ≡ [] → BlockStep place width count (min (at * 32768) rows) shelf shelf ids
 blocks_start place width count rows at shelf ids begins none =
-    let from : 0 ≡ min (at * 8192) rows = omega (arith, begins) in
+    let from : 0 ≡ min (at * 32768) rows = omega (arith, begins) in
     subst (λ n. BlockStep place width count n shelf shelf ids) from (block_start place width count shelf ids none)

@@ -24,7 +24,7 @@ use std::alloc::Global;
 
 /// Ids are read in blocks of so many, which are whole bytes in any width: beside the ids of a
 /// column there are the bytes of one block.
-const BLOCK: u32 = 8192;
+const BLOCK: u32 = 32768;
 
 /// The ids of the rows in a column of a segment: its forward section is read, each byte once, and
 /// nothing else.
@@ -122,7 +122,7 @@ fn append_block<S: Shelf>(
 // The end of the block of ids that begins with one of so many.
 fn block_end(from: u32, rows: u32) -> u32
     requires { from ≤ rows }
-    ensures { result ≡ min (from + 8192) rows }
+    ensures { result ≡ min (from + 32768) rows }
 {
     let left = rows - from;
     if left < BLOCK {
