@@ -5,7 +5,7 @@ use Rattle.values.specs.Columns.{rows_of}
 use Rattle.cursor_serve.specs.Machine.{opened}
 use Rattle.cursor_serve.specs.ServingStands.{OpenCursor}
 use Rattle.serving.specs.Calls.{Serves}
-use Rattle.serving.specs.Kept.{cursors_in}
+use Rattle.cursors.specs.Kept.{cursors_in}
 use Rattle.serving.specs.declared.serving.Serving.{Serving}
 use Rattle.embedded_example.proofs.TurnLemmas.{Calls, leaves_replaced, prints_own}
 use Rattle.embedded_example.proofs.turns.take_turns.Goals as goal
