@@ -1,5 +1,6 @@
 -- The rows of one key, and the places of rows that pass.
-use Rattle.std.proofs.Common.{◌≡◌, ◌∙◌, ◌<◌, ◌≤◌, ◌+◌, ◌-◌, ◌++◌, ◌∷◌, [], ℕ, Bool, Some, List, length, get_or, take, slice_get, ap, sym, arith, pos}
+use Rattle.std.proofs.Common.{◌≡◌, ◌∙◌, ◌<◌, ◌≤◌, ◌+◌, ◌-◌, ◌++◌, ◌∷◌, [], ℕ, Bool, Option, Some, None, MatchOption, List, length, get_or, take, slice_get, ap, sym, subst, arith, pos}
+use Rattle.std.specs.Map.{lookup}
 use Rattle.std.proofs.lemmas.List.{get_or-map, length-map, map-append, take_more}
 use Rattle.std.proofs.lemmas.Option.{get_or_from_slice_get}
 use Rattle.values.specs.declared.value.Value.{Value}
@@ -8,6 +9,8 @@ use Rattle.values.specs.Columns.{Listed, row_of}
 use Rattle.value_ids.specs.Coding.{AreBelow}
 use Rattle.table_schema.specs.declared.query.Agg.{Agg}
 use Rattle.group_table.specs.Groups.{key_of}
+use Rattle.group_table.specs.Kept.{key_eq}
+use Rattle.group_table.specs.Pooled.{IsKeyAt, PooledTable}
 use Rattle.scan_engine.specs.Places.{IsRun, rows_at}
 use Rattle.coded_columns.specs.declared.coded.SegmentColumns.{SegmentColumns}
 use Rattle.coded_columns.specs.declared.keyed_rows.KeyedRows.{KeyedRows}
@@ -52,6 +55,12 @@ pub value-is : (segment : SegmentColumns) (field : ℕ) (column : Coded) (row id
 value-is segment field column row id value of lt is got =
     let values : List Value = column.dictionary.now.values in
     sym (of.each row lt ∙ ap (λ i. get_or values i (Whole (pos 0))) (sym is) ∙ get_or_from_slice_get values id value (Whole (pos 0)) got)
+
+-- a place that a key is found at is that of an equal key
+pub found-key : (known : Option ℕ) (table : PooledTable) (key own : List Value) → key ≡ own
+    → MatchOption known (lookup (key_eq key) table.slots ≡ None) (IsKeyAt table key) → MatchOption known (key ≡ own) (IsKeyAt table own)
+found-key None table key own is found = is
+found-key (Some at) table key own is found = subst (λ (k : List Value). IsKeyAt table k at) is found
 
 module _ (segment : SegmentColumns) (groups : List ℕ) (aggs : List Agg) (keys places : List ℕ) (rows : KeyedRows) (h : HoldsKeys segment groups aggs keys places rows) where
   abbrev pub columns : List Listed

@@ -2,3 +2,4 @@ pub mod RowFilters
 pub mod Marks
 pub mod Added
 pub mod Passed
+pub mod KeysOfIds

@@ -1,34 +1,39 @@
 //! What is kept of rows by their keys is merged into the groups of a query.
 
-ghost use Rattle.std.specs.Prelude.{◌≡◌, ◌<◌, ◌-◌, List, ℕ, IfOk, length};
+ghost use Rattle.std.specs.Prelude.{◌≡◌, ◌<◌, ◌-◌, List, ℕ, Err, IfOk, MatchOption, OnErr, OnOk, Some, length, slice_get};
+ghost use Rattle.std.specs.Bool.{OnTrue};
+ghost use Rattle.std.specs.FinMap as finite;
 ghost use Rattle.agg_laws.specs.Numbers.{most_values};
-ghost use Rattle.values.specs.Columns.{row_of};
-ghost use Rattle.group_table.specs.Groups.{key_of};
-ghost use Rattle.group_table.specs.Kept.{IsTableOf, groups_in};
-ghost use Rattle.group_table.specs.Pooled.{IsTableIn, StaysIn, in_pool};
-ghost use Rattle.table_schema.specs.Conditions.{cell};
+ghost use Rattle.group_table.specs.declared.fault.TableFault.TheVariants.{TooManyGroups};
+ghost use Rattle.group_table.specs.Kept.{IsNewKey, IsTableOf, Merges, groups_in};
+ghost use Rattle.group_table.specs.Pooled.{IsKeyAt, IsTableIn, StaysIn, in_pool};
 ghost use Rattle.scan_engine.specs.Scanned.{HaveAtMost};
-ghost use Rattle.coded_columns.specs.Coded.{column_of, table_of};
 ghost use Rattle.coded_columns.specs.Keyed.{HoldsKeys, HoldsRows};
-ghost use Rattle.coded_columns.specs.Keys.{AreIdsAt, AreIdsOfRow, IsIdAt, IsIdOfRow};
+ghost use Rattle.coded_columns.specs.Keys.{AreIdsOfRow, IsIdOfRow};
 ghost use Rattle.coded_scan.specs.Added.{AddsOrFills};
+ghost use Rattle.coded_scan.specs.KeysOfIds.{CanMergeIds, OfId, OfKey};
 ghost use Rattle.coded_scan.specs.Passed.{MayMerge, passed, passed_rows, run_of};
 
 use crate::filtered_rows::FilteredRows;
 use coded_columns::{KeyedRows, SegmentColumns};
+use dictionary::Dictionary;
 use group_table::{GroupTable, SlotPool, TableFault};
 use state_columns::StateRow;
 use std::alloc::Global;
+use std::mem::replace;
 use table_schema::BoundQuery;
 use values::{NoMemory, Row, Value};
 
-// Room for the key and the states of one group after another.
+// Room for the key and the states of one group after another, and the place of the group that is
+// looked at first for the next key: keys come in the order of their ids, and most groups began in
+// it.
 #[derive(Drop)]
 struct GroupRoom {
     alloc: Global,
     ids: Vec<u32>,
-    values: Vec<Value>,
+    key: Row,
     states: StateRow,
+    next: u32,
 }
 
 impl GroupRoom {
@@ -37,8 +42,9 @@ impl GroupRoom {
         GroupRoom {
             alloc,
             ids: Vec::new(alloc),
-            values: Vec::new(alloc),
+            key: Row::new(alloc),
             states: StateRow::new(alloc),
+            next: 0,
         }
     }
 }
@@ -64,25 +70,25 @@ pub fn merge_keys(
 {
     let mut room = GroupRoom::new(alloc);
     for key in 0..keyed.firsts.len() {
-        match merge_key(query, rows, keyed, key, room, table, pool) {
-            Ok(next) => room = next,
+        match merge_key(query, rows, keyed, key, &mut room, table, pool) {
+            Ok(()) => {}
             Err(fault) => return Err(fault),
         }
     }
     Ok(())
 }
 
-// Merges the states of a key into its group, if some row has the key. The key's values and states
-// are put in place of others.
+// Merges the states of a key into its group, if some row has the key. The key's ids and states are
+// put in place of others.
 fn merge_key(
     query: &BoundQuery,
     rows: FilteredRows<'_, '_>,
     keyed: &KeyedRows,
     key: usize,
-    room: GroupRoom,
+    room: &mut GroupRoom,
     table: &mut GroupTable,
     pool: &mut SlotPool,
-) -> Result<GroupRoom, TableFault>
+) -> Result<(), TableFault>
     requires pooled { IsTableIn table.old pool.old }
     requires table { IsTableOf query.now (in_pool table.old pool.old) }
     requires key { key < length keyed.now.firsts.items }
@@ -96,27 +102,133 @@ fn merge_key(
 {
     let first = keyed.firsts[key];
     if first == 0 {
-        return Ok(room);
+        return Ok(());
     }
-    let GroupRoom {
-        alloc,
-        mut ids,
-        values,
-        mut states,
-    } = room;
     let columns = query.groups.as_slice();
-    keyed.fill_ids(rows.segment, columns, key, &mut ids)?;
-    let own = key_by_ids(alloc, rows.segment, columns, &ids, values)?;
-    keyed.fill_states(key, &mut states)?;
-    if let Err(fault) = table.merge_row(alloc, pool, &own, &states) {
+    keyed.fill_ids(rows.segment, columns, key, &mut room.ids)?;
+    keyed.fill_states(key, &mut room.states)?;
+    if let Err(fault) = merge_ids(rows.segment, columns, room, table, pool) {
         return Err(fault);
     }
-    Ok(GroupRoom {
+    Ok(())
+}
+
+// Merges states into the group of the key of some ids, all of which are in the room.
+fn merge_ids(
+    segment: &SegmentColumns<'_>,
+    columns: &[u16],
+    room: &mut GroupRoom,
+    table: &mut GroupTable,
+    pool: &mut SlotPool,
+) -> Result<(), TableFault>
+    requires pooled { IsTableIn table.old pool.old }
+    requires merges { CanMergeIds segment.now columns.now room.old.ids.items room.old.states
+        (in_pool table.old pool.old) }
+    ensures ok { OnOk result (OfKey segment.now columns.now room.old.ids.items (λ key.
+        Merges key room.old.states (in_pool table.old pool.old) (in_pool table.new pool.new))) }
+    ensures stays { StaysIn table.old pool.old table.new pool.new }
+    ensures full { let old = in_pool table.old pool.old in result ≡ Err TooManyGroups
+        → OfKey segment.now columns.now room.old.ids.items (IsNewKey old)
+        × (finite.len (groups_in old) ≡ old.most) }
+    ensures err { OnErr result ((table.new ≡ table.old) × (pool.new ≡ pool.old)) }
+{
+    let next = room.next;
+    let alloc = room.alloc;
+    let known = match known_place(
         alloc,
-        ids,
-        values: own.into_vec(),
-        states,
-    })
+        segment,
+        columns,
+        &room.ids,
+        next,
+        table,
+        &mut room.key,
+    ) {
+        Ok(known) => known,
+        Err(_) => return Err(TableFault::NoMemory),
+    };
+    if let Some(place) = known {
+        table.merge_at(pool, place, &room.states);
+        room.next = place + 1;
+        return Ok(());
+    }
+    let last = next == table.groups();
+    table.merge_row(alloc, pool, &room.key, &room.states)?;
+    if last {
+        room.next = table.groups();
+    }
+    Ok(())
+}
+
+// The place of the group of the key of some ids, where it is found. The group at the next place is
+// looked at first; if it has another key, that of the ids is put into a row and looked for among
+// all. Past the last group it is not looked for, since it is most likely new.
+fn known_place(
+    alloc: Global,
+    segment: &SegmentColumns<'_>,
+    columns: &[u16],
+    ids: &[u32],
+    next: u32,
+    table: &GroupTable,
+    key: &mut Row,
+) -> Result<Option<u32>, NoMemory>
+    requires table { (pool : _) × IsTableIn table.now pool }
+    requires columns { table.now.columns ≡ length columns.now }
+    requires row { AreIdsOfRow segment.now columns.now ids.now }
+    ensures { IfOk result (λ known. OfKey segment.now columns.now ids.now (λ own.
+        MatchOption known (key.new ≡ own) (IsKeyAt table.now own))) }
+{
+    if next < table.groups() && is_key(segment, columns, ids, table.key_at(next)) {
+        return Ok(Some(next));
+    }
+    let room = replace(key, Row::new(alloc));
+    *key = key_by_ids(alloc, segment, columns, ids, room)?;
+    if next == table.groups() {
+        return Ok(None);
+    }
+    Ok(table.find(key))
+}
+
+// Whether a row is the key of some ids. No text is copied.
+fn is_key(segment: &SegmentColumns<'_>, columns: &[u16], ids: &[u32], key: &Row) -> bool
+    requires same { length ids.now ≡ length columns.now }
+    requires key { length key.now ≡ length columns.now }
+    requires row { AreIdsOfRow segment.now columns.now ids.now }
+    ensures { OnTrue result (OfKey segment.now columns.now ids.now (λ own. key.now ≡ own)) }
+{
+    for at in 0..columns.len() {
+        if !is_value(segment, columns[at], ids[at], key.at(at)) {
+            return false;
+        }
+    }
+    true
+}
+
+// Whether a value is that of an id in a field that is looked at.
+fn is_value(segment: &SegmentColumns<'_>, field: u16, id: u32, value: &Value) -> bool
+    requires { IsIdOfRow segment.now field id }
+    ensures { OnTrue result (OfId segment.now field id (λ own. value.now ≡ own)) }
+{
+    match segment.at(field) {
+        Some(column) => has_value(column.dictionary, id, value),
+        None => false,
+    }
+}
+
+// Whether a value is the one at an id.
+fn has_value(dictionary: &Dictionary, id: u32, value: &Value) -> bool
+    requires { id < length dictionary.now.values }
+    ensures { OnTrue result (slice_get dictionary.now.values id ≡ Some value.now) }
+{
+    match value {
+        Value::Whole(number) => match dictionary.numbers() {
+            Some(numbers) => numbers[id as usize] == *number,
+            None => false,
+        },
+        Value::Text(text) => match dictionary.text_at(id) {
+            Some(own) => own.as_bytes() == text.as_slice(),
+            None => false,
+        },
+    }
 }
 
 // The key of the rows that have these ids in the group columns, in place of the values of another.
@@ -125,15 +237,13 @@ fn key_by_ids(
     segment: &SegmentColumns<'_>,
     columns: &[u16],
     ids: &[u32],
-    values: Vec<Value>,
+    room: Row,
 ) -> Result<Row, NoMemory>
     requires same { length ids.now ≡ length columns.now }
     requires row { AreIdsOfRow segment.now columns.now ids.now }
-    ensures { IfOk result (λ key. (row : ℕ) → row < segment.now.count
-        → AreIdsAt segment.now columns.now row ids.now
-        → key ≡ key_of columns.now (row_of (table_of segment.now).columns row)) }
+    ensures { IfOk result (λ key. OfKey segment.now columns.now ids.now (λ own. key ≡ own)) }
 {
-    let mut key = values;
+    let mut key = room.into_vec();
     key.clear();
     for at in 0..columns.len() {
         key.push(value_of(alloc, segment, columns[at], ids[at])?)?;
@@ -149,9 +259,7 @@ fn value_of(
     id: u32,
 ) -> Result<Value, NoMemory>
     requires { IsIdOfRow segment.now field id }
-    ensures { IfOk result (λ value. (row : ℕ) → row < segment.now.count
-        → IsIdAt (column_of segment.now field) row id
-        → value ≡ cell (row_of (table_of segment.now).columns row) field) }
+    ensures { IfOk result (λ value. OfId segment.now field id (λ own. value ≡ own)) }
 {
     match segment.at(field) {
         Some(column) => column.dictionary.value_at(alloc, id),

@@ -1,6 +1,10 @@
 //! A store inside a program, in memory. The visits of June come from a CSV text and those of July
-//! from the program, and queries are answered over both.
+//! from the program, and queries are answered over both. Then cursors take turns over the same
+//! visits, while those of June are put right.
 #![tactic(auto)]
+
+mod months;
+mod turns;
 
 ghost use Rattle.std.specs.Prelude.{IfOk};
 ghost use Rattle.embedded.specs.Making.{texts_of};
@@ -8,10 +12,12 @@ ghost use Rattle.embedded_example.specs.Visits.{AreReplies};
 
 use embedded::{Fault, Store};
 use memory_devices::MemoryDepot;
+use months::{Ready, Stop, both_months, make_ready};
 use outside::{Bytes, Name, Seq};
 use std::alloc::{AllocError, Global};
 use std::io;
 use std::io::Write;
+use turns::take_turns;
 use values::{Row, Rows, Value};
 
 const SCHEMA: &str = r#"{
@@ -46,6 +52,12 @@ NZ,Chrome,50
 PE,Safari,40
 ";
 
+// The visits of June, put right.
+const CORRECTED: &str = "country,browser,impressions
+CH,Firefox,120
+NZ,Firefox,260
+";
+
 // The tree answers this one.
 const BY_COUNTRY: &str = "SELECT country, SUM(impressions) FROM visits GROUP BY country";
 
@@ -75,6 +87,19 @@ fn report(
     Ok((by_country, most, by_browser))
 }
 
+// The replies of two cursors, one from before the visits of June were put right.
+fn turned(alloc: Global, july: &Rows) -> Result<(Bytes, Bytes), Stop> {
+    let mut depot = both_months(alloc, SCHEMA, SETTINGS, JUNE, july)?;
+    let Ready {
+        table,
+        early,
+        late,
+        rows,
+    } = make_ready(alloc, &mut depot, BY_COUNTRY, CORRECTED)?;
+    let replies = take_turns(alloc, &mut depot, &table, early, late, "june", rows)?;
+    Ok(replies)
+}
+
 fn visit(alloc: Global, country: &str, browser: &str, shown: i64) -> Result<Row, AllocError> {
     let mut row = Seq::with_capacity(alloc, 3)?;
     row.push(Value::Text(Name::from_text(alloc, country)?))?;
@@ -95,7 +120,16 @@ fn main(rt: HostRuntime) -> io::Result<()> {
             let mut out = rt.stdout();
             out.write_all(by_country.as_slice())?;
             out.write_all(most.as_slice())?;
-            out.write_all(by_browser.as_slice())
+            out.write_all(by_browser.as_slice())?;
+        }
+        Err(why) => println!(rt; "refused: {why:?}")?,
+    }
+    match turned(alloc, &july) {
+        // By hand: as above; then CH 120 + 10, NZ 260 + 30, PE 60.
+        Ok((early, late)) => {
+            let mut out = rt.stdout();
+            out.write_all(early.as_slice())?;
+            out.write_all(late.as_slice())
         }
         Err(why) => println!(rt; "refused: {why:?}"),
     }

@@ -22,7 +22,8 @@ pub record IsHeldBeside (table : PooledTable) (pool : Pool) (saved : SavedSlots)
 pub record HasSaved (was : PooledTable) (before : Pool) (pool : Pool) (saved : SavedSlots) : Type 0
   where
     pub table : HoldsAll was before
-    pub states : map (states_at pool) saved.slots ≡ map (λ entry. states_at before entry.1) was.slots
+    pub states : map (states_at pool) saved.slots
+        ≡ map (λ entry. states_at before entry.1) was.slots
 
 -- the quotas and kinds are as before, and each owner but two holds what it held
 pub record KeepsBut (one two : ℕ) (old new : Pool) : Type 0 where

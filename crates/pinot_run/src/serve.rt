@@ -15,7 +15,7 @@ use crate::script::{give_mark, is_fault, words_in};
 use command_words::{Status, Stop};
 use commands::script::open_script;
 use outside::{Bytes, Depot, Shelf, Sink};
-use serve_lines::{Session, answer_line, begin, finish, count_line};
+use serve_lines::{Session, answer_line, begin, count_line, finish};
 use std::alloc::Global;
 
 /// Runs the lines of a file, one after another, and gives a mark after each. At the end each cursor

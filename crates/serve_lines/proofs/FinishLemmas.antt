@@ -20,8 +20,8 @@ use Rattle.cursor_serve.proofs.SoundLemmas.{any_found}
 use Rattle.serving.specs.Calls.{IsAnsweredAs, Serves}
 use Rattle.state_pool.specs.Pool.{Pool}
 use Rattle.serving.specs.Faults.{IsCloseFault}
-use Rattle.serving.specs.Kept.{AreCursors, IsOver, cursors_in}
-use Rattle.serving.specs.declared.cursor.Cursor.{Cursor as ACursor}
+use Rattle.cursors.specs.Kept.{AreCursors, IsOver, cursors_in}
+use Rattle.cursors.specs.declared.cursor.Cursor.{Cursor as ACursor}
 use Rattle.serving.specs.declared.serving.Serving.{Serving}
 use Rattle.serving.specs.declared.fault.ServeFault.{ServeFault}
 use Rattle.serving.specs.declared.fault.ServeFault.TheVariants as serve

@@ -13,8 +13,8 @@ use Rattle.sql_reply.specs.declared.fault.SqlFault.TheVariants as query
 use Rattle.table_store.specs.State.{Texts}
 use Rattle.cursor_serve.specs.Machine.{Cursor as Held, Machine, most_cursors, opened}
 use Rattle.cursor_serve.specs.ServingStands.{BothKept, OpenCursor, ServingStands, kept_under}
-use Rattle.serving.specs.Kept.{AreCursors, cursors_in, place_under, same_name}
-use Rattle.serving.specs.declared.cursor.Cursor.{Cursor}
+use Rattle.cursors.specs.Kept.{AreCursors, cursors_in, place_under, same_name}
+use Rattle.cursors.specs.declared.cursor.Cursor.{Cursor}
 use Rattle.serving.proofs.OpenedLemmas.{cursors_counted}
 use Rattle.command_words.specs.Notes.{sql_note}
 use Rattle.command_words.specs.ServeLine.{Open}

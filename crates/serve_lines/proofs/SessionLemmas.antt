@@ -6,7 +6,7 @@ use Rattle.table_schema.specs.ValidTable.{IsValidTable}
 use Rattle.table_schema.specs.declared.table.Table.{Table}
 use Rattle.cursor_serve.specs.ServingStands.{OpenCursor}
 use Rattle.cursor_serve.proofs.SoundLemmas.{one_value}
-use Rattle.serving.specs.Kept.{IsOver, cursors_in}
+use Rattle.cursors.specs.Kept.{IsOver, cursors_in}
 use Rattle.serving.specs.declared.serving.Serving.{Serving}
 use Rattle.command_words.specs.declared.stop.Stop.{Stop}
 use Rattle.serve_lines.specs.Calls.{FindsTable}

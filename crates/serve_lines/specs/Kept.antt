@@ -10,7 +10,7 @@ use Rattle.table_store.specs.Stands.{Stands}
 use Rattle.table_store.specs.State as store
 use Rattle.cursor_serve.specs.Machine.{Machine, started}
 use Rattle.cursor_serve.specs.ServingStands.{OpenCursor, ServingStands, segments_of}
-use Rattle.serving.specs.Kept.{AreCursors, IsOver, cursors_in}
+use Rattle.cursors.specs.Kept.{AreCursors, IsOver, cursors_in}
 use Rattle.serving.specs.declared.serving.Serving.{Serving}
 use Rattle.serve_lines.specs.Step.{NoStore, Served, Serves}
 use Rattle.serve_lines.specs.declared.session.Session.{Session}

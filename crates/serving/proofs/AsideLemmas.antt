@@ -37,8 +37,8 @@ use Rattle.serving.specs.Aside.{MayHaveCopy, files_aside, is_awaited_in, kept_if
 use Rattle.serving.specs.Calls.{HasNoPlaceFor, IsAnsweredAs, SameButOf, Serves}
 use Rattle.serving.specs.Closed.{has_file}
 use Rattle.serving.specs.Faults.{of_store}
-use Rattle.serving.specs.Kept.{AreCursors, IsCursorIn, IsOver, cursor_in, cursors_in, owners_of, same_name}
-use Rattle.serving.specs.declared.cursor.Cursor.{Cursor}
+use Rattle.cursors.specs.Kept.{AreCursors, IsCursorIn, IsOver, cursor_in, cursors_in, owners_of, same_name}
+use Rattle.cursors.specs.declared.cursor.Cursor.{Cursor}
 use Rattle.serving.specs.declared.fault.ServeFault.{ServeFault}
 use Rattle.serving.specs.declared.fault.ServeFault.TheVariants as fault
 use Rattle.serving.proofs.CloseLemmas.{differ, has_mapped, mapped_has, number_of}

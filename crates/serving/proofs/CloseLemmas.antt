@@ -23,7 +23,7 @@ use Rattle.cursor_serve.proofs.FetchLemmas.{itself, tied}
 use Rattle.cursor_serve.proofs.NumberedLemmas.{stays_numbered}
 use Rattle.cursor_serve.proofs.SoundLemmas.{all_both, all_drop, all_so, any_found, held_by, same_number, took_cases}
 use Rattle.serving.specs.Closed.{has_file, is_file}
-use Rattle.serving.specs.Kept.{same_name}
+use Rattle.cursors.specs.Kept.{same_name}
 
 -- ---- among some
 

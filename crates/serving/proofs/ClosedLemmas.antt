@@ -28,13 +28,13 @@ use Rattle.cursor_serve.proofs.NumberedLemmas.{stays_numbered}
 use Rattle.cursor_serve.proofs.SoundLemmas.{stays_sound}
 use Rattle.serving.specs.Calls.{IsAnsweredAs, Serves}
 use Rattle.serving.specs.Closed.{AreGone, HasNoOther, IsGone, has_file, without_files}
-use Rattle.serving.specs.Kept.{AreCursors, IsCursorIn, KeepsAside, cursor_in, cursors_in, gatherer, owners_of, place_under, same_name}
-use Rattle.serving.specs.declared.cursor.Cursor.{Cursor}
+use Rattle.cursors.specs.Kept.{AreCursors, IsCursorIn, KeepsAside, cursor_in, cursors_in, keeper, owners_of, place_under, same_name}
+use Rattle.cursors.specs.declared.cursor.Cursor.{Cursor}
 use Rattle.serving.specs.declared.fault.ServeFault.TheVariants as fault
 use Rattle.serving.proofs.CloseLemmas.{TakesUnder, closes_stand}
 use Rattle.serving.proofs.GoneLemmas.{gone_kept, left_got, left_of, left_stands, without_told}
 use Rattle.serving.proofs.PlaceLemmas.{AtPlace, IsOther, lower, no_place, no_suc, no_zero, place_kept, pool_still, rest_same, rest_still}
-use Rattle.serving.proofs.PoolLemmas.{aside_first}
+use Rattle.cursors.proofs.PoolLemmas.{aside_first}
 use Rattle.serving.proofs.StepLemmas.{IsFoundAs, found_as, none_kept}
 
 -- no cursor of the name
@@ -101,7 +101,7 @@ at_of pool q k (x ∷ ds) is = by (same_name q x.name) refl is (at_of pool q k d
 
 -- ---- the others, once one is out
 
-module _ (old new : Pool) (c : Cursor) (keeps : KeepsAside c.groups.owner gatherer old new) where
+module _ (old new : Pool) (c : Cursor) (keeps : KeepsAside c.groups.owner keeper old new) where
   each_out : (ds : List Cursor) (at : ℕ) → AtPlace (IsOther c) at c ds → AllByRecursion (IsCursorIn old) ds → AllByRecursion (IsCursorIn new) (remove ds at)
   each_out [] at place own = absurd place
   each_out (d ∷ ds) zero place own = rest_still old new c c keeps ds place.1 own.1
@@ -196,9 +196,9 @@ module _ (name : List ℕ) where
 
 pub cursors_out : (old new : Pool) (c : Cursor) (ds : List Cursor) (at : ℕ) → AtPlace (IsOther c) at c ds → AreCursors old ds → KeepsOthers c.groups.owner old new → held new c.groups.owner ≡ 0 → AreCursors new (remove ds at)
 cursors_out old new c ds at place all closes none =
-    let keeps : KeepsAside c.groups.owner gatherer old new = aside_first c.groups.owner gatherer old new closes in
+    let keeps : KeepsAside c.groups.owner keeper old new = aside_first c.groups.owner keeper old new closes in
     record {
-      pool_is = pool_still c.groups.owner gatherer old new keeps all.pool_is;
+      pool_is = pool_still c.groups.owner keeper old new keeps all.pool_is;
       few = let long = long_out old new c keeps ds at place in let few = all.few in omega (arith, long, few);
       each = each_out old new c keeps ds at place all.each;
       owners = subst (IsDistinct nat_eq) (sym (map_out (λ (d : Cursor). d.groups.owner) ds at)) (once_out nat_eq (owners_of ds) at all.owners);
@@ -247,7 +247,7 @@ module _ (table : Table) (idle : KeptIdle) (pool new : Pool) (ds : List Cursor) 
     closes_out None held_new names gone same = tt
     closes_out (Some files) held_new names gone same = λ texts m stands.
         let olds : List OpenCursor = cursors_in pool ds in
-        let keeps : KeepsAside c.groups.owner gatherer pool new = aside_first c.groups.owner gatherer pool new closes in
+        let keeps : KeepsAside c.groups.owner keeper pool new = aside_first c.groups.owner keeper pool new closes in
         let found : IsFoundAs m name (cursor_in pool c) = found_as m name olds (cursor_in pool c) (stands.cursors name) (place_kept pool name ds at dflt place ∙ ap (λ d. Some (cursor_in pool d)) is) in
         let goes : closed name m ≡ closed_by name (Some found.cursor) m = ap (λ o. closed_by name o m) found.got in
         let takes : TakesUnder name olds (cursors_in new (remove ds at)) = subst (TakesUnder name olds) (sym (seen_out pool new c keeps ds at place_c all.each))

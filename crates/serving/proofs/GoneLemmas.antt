@@ -11,8 +11,8 @@ use Rattle.table_store.specs.State.{HasTable, Segments, Texts}
 use Rattle.cursor_serve.proofs.FetchLemmas.{tied}
 use Rattle.cursor_serve.proofs.SoundLemmas.{all_joined, all_so}
 use Rattle.serving.specs.Closed.{IsGone, IsReleased, has_file, is_file, without_files}
-use Rattle.serving.specs.Kept.{same_name}
-use Rattle.serving.specs.declared.cursor.Cursor.{Cursor}
+use Rattle.cursors.specs.Kept.{same_name}
+use Rattle.cursors.specs.declared.cursor.Cursor.{Cursor}
 
 -- ---- files without some
 

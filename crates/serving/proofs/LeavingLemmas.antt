@@ -24,7 +24,7 @@ use Rattle.cursor_serve.proofs.FetchLemmas.{itself, tied}
 use Rattle.cursor_serve.proofs.SoundLemmas.{all_both, all_drop, awaited_by, same_number}
 use Rattle.serving.specs.Aside.{kept_if, stands_aside}
 use Rattle.serving.specs.Closed.{has_file}
-use Rattle.serving.specs.Kept.{same_name}
+use Rattle.cursors.specs.Kept.{same_name}
 use Rattle.serving.proofs.CloseLemmas.{IsKeptOf, all_in, differ, file_name, file_of_number, has_mapped, kept_all, kept_among, mapped_has, one_number, passed_any}
 use Rattle.serving.proofs.GoneLemmas.{any_joined}
 

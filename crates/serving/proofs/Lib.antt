@@ -1,16 +1,8 @@
-mod GatherLemmas
-mod PoolLemmas
-mod AnswerLemmas
 pub mod StandLemmas
-mod StoredLemmas
 pub mod PlaceLemmas
-mod MovedLemmas
 mod StepLemmas
 pub mod OpenLemmas
 pub mod OpenedLemmas
-mod OwnerLemmas
-mod NewLemmas
-mod FileLemmas
 pub mod CloseLemmas
 pub mod GoneLemmas
 mod ClosedLemmas

@@ -1,28 +1,23 @@
 -- A cursor is opened, as the machine does.
-use Rattle.std.proofs.Common.{◌≡◌, ◌≢◌, ◌∙◌, ◌+◌, ◌*◌, ◌<◌, ◌≤◌, ◌||◌, ℕ, zero, suc, Bool, true, false, cond, nat_eq, nat_le, List, [], ◌∷◌, ◌++◌, drop, filter, length, map, take, Option, Some, None, IfSome, Result, Ok, Err, refl, sym, ap, subst, arith, is_some, length-append}
+use Rattle.std.proofs.Common.{◌≡◌, ◌≢◌, ◌∙◌, ◌+◌, ◌<◌, ◌≤◌, ◌||◌, ℕ, suc, Bool, true, false, cond, nat_eq, nat_le, List, [], ◌∷◌, ◌++◌, length, map, Option, Some, None, IfSome, Ok, Err, refl, sym, ap, subst, arith, is_some, length-append}
 use Rattle.std.specs.FinMap as finite
 use Rattle.std.specs.Cmp.{eq_by_cmp_equiv}
 use Rattle.std.specs.List.{AllByRecursion, IsDistinct, list_any}
 use Rattle.std.specs.Option.{option_map}
-use Rattle.std.specs.Ordering.{eq_by_cmp}
 use Rattle.std.proofs.lemmas.Bool.{false≢true, le-leb, leb-true}
 use Rattle.std.proofs.lemmas.Cmp.{nat_list_cmp_total}
 use Rattle.std.proofs.lemmas.List.{length-map}
 use Rattle.std.proofs.lemmas.Map.Made.{length-from_same_keys}
 use borrow.Author.Tests.{eqb-false}
-use Rattle.outside.specs.Files.{Files, name_order}
+use Rattle.outside.specs.Files.{Files}
 use Rattle.table_schema.specs.declared.query.BoundQuery.{BoundQuery}
 use Rattle.table_schema.specs.declared.table.Table.{Table}
 use Rattle.state_pool.specs.Pool.{Pool, held}
-use Rattle.group_table.specs.Kept.{IsTableOf, groups_in}
-use Rattle.group_table.specs.Pooled.{IsNewIn, IsTableIn, PooledTable, in_pool}
 use Rattle.group_table.proofs.SlotFrames.{push_apart}
-use Rattle.scan_engine.specs.Scanned.{HaveAtMost}
-use Rattle.serving.proofs.GatherLemmas.{new_fits}
 use Rattle.segment_file.specs.Names.{file_of}
 use Rattle.table_store.specs.Segments.{AreFirstNames}
 use Rattle.table_store.specs.Stands.{Stands}
-use Rattle.table_store.specs.State.{HasTable, Texts}
+use Rattle.table_store.specs.State.{HasTable}
 use Rattle.table_store.proofs.NameLemmas.{entries_apart}
 use Rattle.cursor_serve.specs.Machine as machine
 use Rattle.cursor_serve.specs.Machine.{After, Cursor as Kept, Machine, Open, lists_of, most_cursors, opened, refused}
@@ -33,9 +28,9 @@ use Rattle.cursor_serve.proofs.FetchLemmas.{itself, tied}
 use Rattle.cursor_serve.proofs.NumberedLemmas.{stays_numbered}
 use Rattle.cursor_serve.proofs.SoundLemmas.{all_joined, stays_sound}
 use Rattle.serving.specs.Calls.{IsAnsweredAs, Serves}
-use Rattle.serving.specs.Kept.{AreCursors, IsCursorIn, IsPool, KeepsAside, cursor_in, cursors_in, gatherer, owners_of, place_under, same_name}
-use Rattle.serving.specs.Opened.{IsNewCursor}
-use Rattle.serving.specs.declared.cursor.Cursor.{Cursor}
+use Rattle.cursors.specs.Kept.{AreCursors, IsCursorIn, KeepsAside, cursor_in, cursors_in, keeper, owners_of, place_under, same_name}
+use Rattle.cursors.specs.Opened.{IsNewCursor}
+use Rattle.cursors.specs.declared.cursor.Cursor.{Cursor}
 use Rattle.serving.specs.declared.fault.ServeFault.{ServeFault}
 use Rattle.serving.specs.declared.fault.ServeFault.TheVariants as fault
 use Rattle.serving.proofs.OpenLemmas.{files_live, live_filed, live_listed, names_live}
@@ -200,8 +195,8 @@ any_split p (m ∷ ns) n is = by (p m) is (any_split p ns n)
 
 module _ (table : Table) (pool new : Pool) (ds : List Cursor) (name : List ℕ) (query : BoundQuery) (segments : List (List ℕ)) (owner : ℕ) (e : Cursor) (all : AreCursors pool ds)
     (made : IsNewCursor owner name query segments new e) (keeps : KeepsAside owner owner pool new) (free : list_any (nat_eq owner) (owners_of ds) ≡ false) (none : place_under name ds ≡ None) where
-  keeps_e : KeepsAside e.groups.owner gatherer pool new
-  keeps_e = aside_one e.groups.owner gatherer pool new (subst (λ o. KeepsAside o o pool new) (sym made.owner_is) keeps)
+  keeps_e : KeepsAside e.groups.owner keeper pool new
+  keeps_e = aside_one e.groups.owner keeper pool new (subst (λ o. KeepsAside o o pool new) (sym made.owner_is) keeps)
 
   others : AllByRecursion (IsOther e) ds
   others = all_apart e.groups.owner ds (none_among e.groups.owner (owners_of ds) (subst (λ o. list_any (nat_eq o) (owners_of ds) ≡ false) (sym made.owner_is) free))
@@ -258,24 +253,6 @@ module _ (table : Table) (pool new : Pool) (ds : List Cursor) (name : List ℕ) 
           by false is = refl
 
 -- ---- what a new cursor is made of
-
-files_there : (names : List (List ℕ)) → AllByRecursion (λ file. is_some file ≡ true) (map (λ name. Some (file_of name)) names)
-files_there [] = tt
-files_there (name ∷ names) = (refl, files_there names)
-
-pub made_new : (owner : ℕ) (query : BoundQuery) (segments : List (List ℕ)) (old new : Pool) (groups : PooledTable) (files : List (Option (List ℕ))) → IsNewIn query owner old new groups → owner < most_cursors → length segments ≤ 512
-    → files ≡ map (λ name. Some (file_of name)) segments → (e : Cursor) → e.query ≡ query → e.segments ≡ segments → e.answered ≡ 0 → e.files.items ≡ files → e.owner ≡ owner → e.groups ≡ groups → IsCursorIn new e
-made_new owner query segments old new groups files made below few are e q s none f o g = record {
-  owner = subst (λ (t : PooledTable). t.owner < 16) (sym g) (subst (λ n. n < 16) (sym made.owner_is) below);
-  owner_is = o ∙ sym made.owner_is ∙ ap (λ (t : PooledTable). t.owner) (sym g);
-  table = subst (λ (t : PooledTable). IsTableIn t new) (sym g) made.table_in;
-  of_query = subst (λ (t : PooledTable). IsTableOf e.query (in_pool t new)) (sym g) (subst (λ (q : BoundQuery). IsTableOf q (in_pool groups new)) (sym q) made.is_new.of_query);
-  fits = subst (λ (t : PooledTable). HaveAtMost (e.answered * 1048576) (groups_in (in_pool t new))) (sym g) (new_fits query _ (e.answered * 1048576) (in_pool groups new) made.is_new);
-  answered = omega (arith, none);
-  few = subst (λ ss. length ss ≤ 512) (sym s) few;
-  files = ap length (f ∙ are) ∙ length-map segments (λ name. Some (file_of name)) ∙ ap length (sym s);
-  there = subst (λ n. AllByRecursion (λ file. is_some file ≡ true) (drop n e.files.items)) (sym none) (subst (AllByRecursion (λ file. is_some file ≡ true)) (sym (f ∙ are)) (files_there segments));
-}
 
 -- an owner that no cursor says that it has
 pub owner_free : (pool : Pool) (ds : List Cursor) (owner : ℕ) → AllByRecursion (IsCursorIn pool) ds → list_any (λ (d : Cursor). nat_eq owner d.owner) ds ≡ false → list_any (nat_eq owner) (owners_of ds) ≡ false

@@ -1,26 +1,21 @@
 -- The cursor at a place once it has moved on, among the others.
-use Rattle.std.proofs.Common.{◌≡◌, ◌≢◌, ◌∙◌, ◌+◌, ◌*◌, ◌<◌, ◌≤◌, ◌||◌, ℕ, zero, suc, Bool, true, false, cond, nat_eq, List, [], ◌∷◌, ◌++◌, length, map, get_or, set, take, Option, Some, None, refl, sym, ap, subst, arith}
+use Rattle.std.proofs.Common.{◌≡◌, ◌≢◌, ◌∙◌, ◌<◌, ◌≤◌, ◌||◌, ℕ, zero, suc, Bool, true, false, cond, nat_eq, List, [], ◌∷◌, length, map, get_or, set, Option, Some, None, refl, sym, ap, subst, arith}
 use Rattle.std.specs.List.{All, AllByRecursion, IsDistinct, list_any}
 use Rattle.std.specs.FinMap as finite
-use Rattle.std.specs.Ordering.{eq_by_cmp}
 use Rattle.std.specs.Option.{option_map}
 use borrow.Author.Tests.{eqb-true, eqb-false}
 use Rattle.std.proofs.lemmas.Bool.{false≢true}
 use Rattle.std.proofs.lemmas.Map.Keys.{IsDistinct-head, IsDistinct-tail}
-use Rattle.outside.specs.Files.{name_order}
 use Rattle.segment_file.specs.Names.{IsSegmentName}
 use Rattle.table_schema.specs.ValidQuery.{IsValidQuery}
 use Rattle.table_schema.specs.declared.table.Table.{Table}
-use Rattle.serving.specs.Answered.{IsMoved}
-use Rattle.state_pool.specs.Pool.{Pool, Slots, held, kinds_at, quota_of, slots_of}
-use Rattle.group_table.specs.Kept.{IsTableOf, KeptGroups, groups_in}
-use Rattle.group_table.specs.Pooled.{KeepsOthers, PooledTable, in_pool}
-use Rattle.scan_engine.specs.Scanned.{HaveAtMost}
+use Rattle.cursors.specs.Answered.{IsMoved}
+use Rattle.state_pool.specs.Pool.{Pool, held}
 use Rattle.cursor_serve.specs.ServingStands.{OpenCursor, kept_under}
-use Rattle.cursor_serve.proofs.FetchLemmas.{itself, tied}
-use Rattle.serving.specs.Kept.{AreCursors, IsCursorIn, IsOver, IsPool, KeepsAside, cursor_in, cursors_in, gatherer, owners_of, place_under, same_name}
-use Rattle.serving.specs.declared.cursor.Cursor.{Cursor}
-use Rattle.serving.proofs.PoolLemmas.{aside_both, aside_first, same_in, still_in}
+use Rattle.cursor_serve.proofs.FetchLemmas.{tied}
+use Rattle.cursors.specs.Kept.{AreCursors, IsCursorIn, IsOver, IsPool, KeepsAside, cursor_in, cursors_in, keeper, owners_of, place_under, same_name}
+use Rattle.cursors.specs.declared.cursor.Cursor.{Cursor}
+use Rattle.cursors.proofs.StillLemmas.{no_keeper, seen_by_same, still_by}
 use Rattle.serving.proofs.StandLemmas.{PutsUnder}
 
 -- ---- at a place
@@ -70,39 +65,7 @@ lower (Some n) at e = let same : suc n ≡ suc at = cc in let one : n ≡ at = o
 
 -- ---- the others as they were
 
--- a cursor whose owner has what it had
-module _ (one two : ℕ) (old new : Pool) (keeps : KeepsAside one two old new) (d : Cursor) (ne : d.groups.owner ≢ one) (no : d.groups.owner ≢ two) (own : IsCursorIn old d) where
-  same_by : in_pool d.groups new ≡ in_pool d.groups old
-  same_by = same_in d.groups old new keeps.quotas (keeps.kinds d.groups.owner ne no) (keeps.slots d.groups.owner ne no) own.table.holds
-
-  still_by : IsCursorIn new d
-  still_by = record {
-    owner = own.owner;
-    owner_is = own.owner_is;
-    table = still_in d.groups old new keeps.quotas (keeps.kinds d.groups.owner ne no) (keeps.slots d.groups.owner ne no) own.table;
-    of_query = subst (IsTableOf d.query) (sym same_by) own.of_query;
-    fits = subst (λ (k : KeptGroups). HaveAtMost (d.answered * 1048576) (groups_in k)) (sym same_by) own.fits;
-    answered = own.answered;
-    few = own.few;
-    files = own.files;
-    there = own.there;
-  }
-
-  seen_by_same : cursor_in new d ≡ cursor_in old d
-  seen_by_same = λ i. record {
-    name = d.name;
-    query = d.query;
-    segments = d.segments;
-    answered = d.answered;
-    files = d.files.items;
-    groups = groups_in (same_by i);
-  }
-
--- the owner of a cursor is not that of the segments that are being answered
-no_gatherer : (pool : Pool) (d : Cursor) → IsCursorIn pool d → d.groups.owner ≢ gatherer
-no_gatherer pool d own is = let lt = own.owner in omega (arith, lt, is)
-
--- nor are the quotas and the width others
+-- the quotas and the width are as they were
 pub pool_still : (one two : ℕ) (old new : Pool) → KeepsAside one two old new → IsPool old → IsPool new
 pool_still one two old new keeps is = record {
   owners = ap length keeps.quotas ∙ is.owners;
@@ -138,12 +101,12 @@ cursors_aside one old new ds keeps all free none = record {
         let ne : other ≢ one = λ e. eqb-false other one apart e in
         ap finite.len (keeps.slots other ne ne) ∙ all.free other is
 
-module _ (old new : Pool) (c e : Cursor) (keeps : KeepsAside c.groups.owner gatherer old new) where
+module _ (old new : Pool) (c e : Cursor) (keeps : KeepsAside c.groups.owner keeper old new) where
   other_still : (d : Cursor) → IsOther c d → IsCursorIn old d → IsCursorIn new d
-  other_still d ne own = still_by c.groups.owner gatherer old new keeps d ne (no_gatherer old d own) own
+  other_still d ne own = still_by c.groups.owner keeper old new keeps d ne (no_keeper old d own) own
 
   other_same : (d : Cursor) → IsOther c d → IsCursorIn old d → cursor_in new d ≡ cursor_in old d
-  other_same d ne own = seen_by_same c.groups.owner gatherer old new keeps d ne (no_gatherer old d own) own
+  other_same d ne own = seen_by_same c.groups.owner keeper old new keeps d ne (no_keeper old d own) own
 
   pub rest_still : (ds : List Cursor) → AllByRecursion (IsOther c) ds → AllByRecursion (IsCursorIn old) ds → AllByRecursion (IsCursorIn new) ds
   rest_still [] ne own = tt
@@ -163,19 +126,19 @@ module _ (old new : Pool) (c e : Cursor) (keeps : KeepsAside c.groups.owner gath
   same_field f (d ∷ ds) zero is place = ap (λ x. x ∷ map f ds) (is ∙ ap f (sym place.0))
   same_field f (d ∷ ds) (suc at) is place = ap (λ l. f d ∷ l) (same_field f ds at is place.1)
 
-  pub cursors_moved : (ds : List Cursor) (at : ℕ) → AtPlace (IsOther c) at c ds → AreCursors old ds → IsCursorIn new e → e.name ≡ c.name → e.groups.owner ≡ c.groups.owner → held new gatherer ≡ 0
+  pub cursors_moved : (ds : List Cursor) (at : ℕ) → AtPlace (IsOther c) at c ds → AreCursors old ds → IsCursorIn new e → e.name ≡ c.name → e.groups.owner ≡ c.groups.owner → held new keeper ≡ 0
       → AreCursors new (set ds at e)
   cursors_moved ds at place all it name owner closed =
       let owners : owners_of (set ds at e) ≡ owners_of ds = same_field (λ (d : Cursor). d.groups.owner) ds at owner place in
       record {
-        pool_is = pool_still c.groups.owner gatherer old new keeps all.pool_is;
+        pool_is = pool_still c.groups.owner keeper old new keeps all.pool_is;
         few = subst (λ n. n ≤ 16) (sym (long ds at place)) all.few;
         each = each_moved ds at place all.each it;
         owners = subst (IsDistinct nat_eq) (sym owners) all.owners;
         names = subst (IsDistinct same_name) (sym (same_field (λ (d : Cursor). d.name) ds at name place)) all.names;
         free = λ other none.
             let not : list_any (nat_eq other) (owners_of ds) ≡ false = ap (list_any (nat_eq other)) (sym owners) ∙ none in
-            by other not (nat_eq other gatherer) refl;
+            by other not (nat_eq other keeper) refl;
       }
     where
       long : (ds : List Cursor) (at : ℕ) → AtPlace (IsOther c) at c ds → length (set ds at e) ≡ length ds
@@ -196,9 +159,9 @@ module _ (old new : Pool) (c e : Cursor) (keeps : KeepsAside c.groups.owner gath
           second true b is = absurd cc
           second false b is = is
 
-      by : (other : ℕ) → list_any (nat_eq other) (owners_of ds) ≡ false → (b : Bool) → nat_eq other gatherer ≡ b → held new other ≡ 0
-      by other none true is = ap (held new) (eqb-true other gatherer is) ∙ closed
-      by other none false is = ap finite.len (keeps.slots other (among other ds at place none) (λ e. eqb-false other gatherer is e)) ∙ all.free other none
+      by : (other : ℕ) → list_any (nat_eq other) (owners_of ds) ≡ false → (b : Bool) → nat_eq other keeper ≡ b → held new other ≡ 0
+      by other none true is = ap (held new) (eqb-true other keeper is) ∙ closed
+      by other none false is = ap finite.len (keeps.slots other (among other ds at place none) (λ e. eqb-false other keeper is e)) ∙ all.free other none
 
   -- what callers see of it
   abbrev Seen : List ℕ → List ℕ → ℕ → List Cursor → Type 0
@@ -273,50 +236,12 @@ no_place pool name (d ∷ ds) none = none_by (same_name name d.name) (place_unde
 
 -- ---- where no owner of a cursor has changed anything
 
-module _ (old new : Pool) (keeps : KeepsAside gatherer gatherer old new) where
-  pub still_cursor : (d : Cursor) → IsCursorIn old d → IsCursorIn new d
-  still_cursor d own = let no = no_gatherer old d own in still_by gatherer gatherer old new keeps d no no own
-
+module _ (old new : Pool) (keeps : KeepsAside keeper keeper old new) where
   pub all_same : (ds : List Cursor) → AllByRecursion (IsCursorIn old) ds → cursors_in new ds ≡ cursors_in old ds
   all_same [] own = refl
   all_same (d ∷ ds) own =
-      let no = no_gatherer old d own.0 in
-      λ i. seen_by_same gatherer gatherer old new keeps d no no own.0 i ∷ all_same ds own.1 i
-
--- what was gathered is closed, and nothing else has changed
-pub aside_closed : (old mid after new : Pool) (owner : ℕ) → owner ≡ gatherer → KeepsAside gatherer gatherer old mid → after ≡ mid → KeepsOthers owner after new → KeepsAside gatherer gatherer old new
-aside_closed old mid after new owner is keeps same closes = aside_both gatherer gatherer old mid new keeps
-    (subst (λ p. KeepsAside gatherer gatherer p new) same (aside_first gatherer gatherer after new (subst (λ o. KeepsOthers o after new) is closes)))
-
-pub still_closed : (old mid after new : Pool) (owner : ℕ) → owner ≡ gatherer → KeepsAside gatherer gatherer old mid → after ≡ mid → KeepsOthers owner after new
-    → (c : Cursor) → IsCursorIn old c → (u : PooledTable) → u ≡ c.groups → IsCursorIn new (record c { groups = u })
-still_closed old mid after new owner is keeps same closes c own u back =
-    subst (λ (u : PooledTable). IsCursorIn new (record c { groups = u })) (sym back) (still_cursor old new (aside_closed old mid after new owner is keeps same closes) c own)
-
--- ---- a look through cursors for a name
-
-none_by_name : (b : Bool) (o : Option ℕ) → b ≡ false → o ≡ None → cond b (Some 0) (option_map suc o) ≡ None
-none_by_name b o is none = (λ i. cond (is i) (Some 0) (option_map suc (none i)))
-
-later_none : (b : Bool) (o : Option ℕ) → cond b (Some 0) (option_map suc o) ≡ None → (b ≡ false) × (o ≡ None)
-later_none true o is = absurd cc
-later_none false None is = (refl, refl)
-later_none false (Some n) is = absurd cc
-
--- none before has the name, and the one at the place has it
-pub found_at : (name : List ℕ) (ds : List Cursor) (at : ℕ) (c dflt : Cursor) → at < length ds → get_or ds at dflt ≡ c → place_under name (take at ds) ≡ None → same_name name c.name ≡ true → place_under name ds ≡ Some at
-found_at name [] at c dflt lt is none same = absurd (omega (arith, lt))
-found_at name (d ∷ ds) zero c dflt lt is none same = ap (λ b. cond b (Some 0) (option_map suc (place_under name ds))) (ap (λ (x : Cursor). same_name name x.name) is ∙ same)
-found_at name (d ∷ ds) (suc at) c dflt lt is none same =
-    let two = later_none (same_name name d.name) (place_under name (take at ds)) none in
-    (λ i. cond (two.0 i) (Some 0) (option_map suc (found_at name ds at c dflt (omega (arith, lt)) is two.1 same i)))
-
-pub none_next : (name : List ℕ) (ds : List Cursor) (at : ℕ) (c dflt : Cursor) → at < length ds → get_or ds at dflt ≡ c → place_under name (take at ds) ≡ None → same_name name c.name ≡ false → place_under name (take (suc at) ds) ≡ None
-none_next name [] at c dflt lt is none apart = refl
-none_next name (d ∷ ds) zero c dflt lt is none apart = none_by_name (same_name name d.name) None (ap (λ (x : Cursor). same_name name x.name) is ∙ apart) refl
-none_next name (d ∷ ds) (suc at) c dflt lt is none apart =
-    let two = later_none (same_name name d.name) (place_under name (take at ds)) none in
-    none_by_name (same_name name d.name) (place_under name (take (suc at) ds)) two.0 (none_next name ds at c dflt (omega (arith, lt)) is two.1 apart)
+      let no = no_keeper old d own.0 in
+      λ i. seen_by_same keeper keeper old new keeps d no no own.0 i ∷ all_same ds own.1 i
 
 -- ---- what holds of the cursor at a place, and of those that others are put in the place of
 
@@ -336,12 +261,12 @@ set_same (d ∷ ds) zero c dflt lt is = ap (λ x. x ∷ ds) (sym is)
 set_same (d ∷ ds) (suc at) c dflt lt is = ap (λ l. d ∷ l) (set_same ds at c dflt (omega (arith, lt)) is)
 
 -- the owner of the segments that are being answered is no cursor's
-pub gatherer_free : (pool : Pool) (ds : List Cursor) → AllByRecursion (IsCursorIn pool) ds → list_any (nat_eq gatherer) (owners_of ds) ≡ false
-gatherer_free pool [] own = refl
-gatherer_free pool (d ∷ ds) own = by (nat_eq gatherer d.groups.owner) refl (gatherer_free pool ds own.1)
+pub keeper_free : (pool : Pool) (ds : List Cursor) → AllByRecursion (IsCursorIn pool) ds → list_any (nat_eq keeper) (owners_of ds) ≡ false
+keeper_free pool [] own = refl
+keeper_free pool (d ∷ ds) own = by (nat_eq keeper d.groups.owner) refl (keeper_free pool ds own.1)
   where
-    by : (b : Bool) → nat_eq gatherer d.groups.owner ≡ b → list_any (nat_eq gatherer) (owners_of ds) ≡ false → (b || list_any (nat_eq gatherer) (owners_of ds)) ≡ false
-    by true is rest = absurd (no_gatherer pool d own.0 (sym (eqb-true gatherer d.groups.owner is)))
+    by : (b : Bool) → nat_eq keeper d.groups.owner ≡ b → list_any (nat_eq keeper) (owners_of ds) ≡ false → (b || list_any (nat_eq keeper) (owners_of ds)) ≡ false
+    by true is rest = absurd (no_keeper pool d own.0 (sym (eqb-true keeper d.groups.owner is)))
     by false is rest = rest
 
 -- the query and the names of a cursor are over the table still

@@ -16,11 +16,11 @@ use Rattle.segment_reads.proofs.SpanLemmas.{planned_less}
 use Rattle.query_executor.specs.Passes.{PassReads}
 use Rattle.query_executor.proofs.EndLemmas.{Done, Failed}
 use Rattle.query_executor.specs.declared.fault.ExecutorFault.{ExecutorFault}
-use Rattle.serving.specs.Answered.{next_stored}
+use Rattle.cursors.specs.Answered.{next_stored}
 use Rattle.serving.specs.Calls.{ReadsOf}
-use Rattle.serving.specs.Gathered.{stored_in}
-use Rattle.serving.specs.Kept.{place_under}
-use Rattle.serving.specs.declared.cursor.Cursor.{Cursor}
+use Rattle.cursors.specs.Added.{stored_in}
+use Rattle.cursors.specs.Kept.{place_under}
+use Rattle.cursors.specs.declared.cursor.Cursor.{Cursor}
 use Rattle.serving.specs.declared.fault.ServeFault.{ServeFault}
 use Rattle.serving.proofs.ClosedLemmas.{got_at}
 use Rattle.serving.proofs.PlaceLemmas.{place_within}

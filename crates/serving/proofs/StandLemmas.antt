@@ -20,8 +20,8 @@ use Rattle.cursor_serve.specs.Sound.{IsSound}
 use Rattle.cursor_serve.specs.ServingStands.{BothKept, HasFile, HasList, IsKeptAs, IsListOf, OpenCursor, ServingStands, kept_under, stands_as}
 use Rattle.cursor_serve.proofs.FetchLemmas.{itself, tied}
 use Rattle.cursor_serve.proofs.SoundLemmas.{all_drop, all_so, put_cases}
-use Rattle.serving.specs.Gathered.{stored_in}
-use Rattle.serving.specs.Kept.{same_name}
+use Rattle.cursors.specs.Added.{stored_in}
+use Rattle.cursors.specs.Kept.{same_name}
 
 -- ---- lists and their files
 

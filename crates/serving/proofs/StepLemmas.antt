@@ -40,14 +40,14 @@ use Rattle.cursor_serve.specs.Sound.{IsSound}
 use Rattle.cursor_serve.specs.ServingStands.{BothKept, HasFile, IsKeptAs, IsListOf, OpenCursor, ServingStands, kept_under, segments_of, stands_as}
 use Rattle.cursor_serve.proofs.NumberedLemmas.{stays_numbered}
 use Rattle.cursor_serve.proofs.SoundLemmas.{all_drop, stays_sound}
-use Rattle.serving.specs.Answered.{AnswersRows, HasRows, IsMoved, IsOverfull, next_stored}
+use Rattle.cursors.specs.Answered.{AnswersRows, HasRows, IsMoved, IsOverfull, next_stored}
 use Rattle.serving.specs.Calls.{IsAnsweredAs, IsRefusedAs, Serves}
 use Rattle.serving.specs.Faults.{of_query}
-use Rattle.serving.specs.Gathered.{OverRows, stored_in}
-use Rattle.serving.specs.Kept.{AreCursors, IsCursorIn, cursor_in, cursors_in, place_under}
-use Rattle.serving.specs.declared.cursor.Cursor.{Cursor}
+use Rattle.cursors.specs.Added.{OverRows, stored_in}
+use Rattle.cursors.specs.Kept.{AreCursors, IsCursorIn, cursor_in, cursors_in, place_under}
+use Rattle.cursors.specs.declared.cursor.Cursor.{Cursor}
 use Rattle.serving.specs.declared.fault.ServeFault.TheVariants as fault
-use Rattle.serving.proofs.AnswerLemmas.{within_most}
+use Rattle.cursors.proofs.AddedLemmas.{within_most}
 use Rattle.serving.proofs.PlaceLemmas.{no_place, place_kept}
 use Rattle.serving.proofs.StandLemmas.{AreImaged, PutsUnder, files_in, imaged, names_in, stands_with, with_cursor}
 

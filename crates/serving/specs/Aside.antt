@@ -8,7 +8,7 @@ use Rattle.segment_file.specs.Names.{file_of}
 use Rattle.table_store.specs.Kept.{kept_name}
 use Rattle.serving.specs.Closed.{has_file, is_file}
 use Rattle.serving.specs.declared.aside.Aside.{Aside}
-use Rattle.serving.specs.declared.cursor.Cursor.{Cursor}
+use Rattle.cursors.specs.declared.cursor.Cursor.{Cursor}
 
 -- ---- the kept file
 

@@ -19,7 +19,7 @@ use Rattle.cursor_serve.specs.Machine as machine
 use Rattle.cursor_serve.specs.Machine.{After, Machine}
 use Rattle.cursor_serve.specs.ServingStands.{OpenCursor, ServingStands, segments_of}
 use Rattle.serving.specs.Closed.{without_files}
-use Rattle.serving.specs.Kept.{same_name}
+use Rattle.cursors.specs.Kept.{same_name}
 use Rattle.serving.specs.declared.fault.ServeFault.{ServeFault}
 use Rattle.serving.specs.declared.fault.ServeFault.TheVariants as fault
 

@@ -3,8 +3,8 @@ use Rattle.std.specs.Prelude.{◌≡◌, ◌≢◌, ◌⊎◌, ℕ, Bool, true, 
 use Rattle.std.specs.List.{AllByRecursion, list_any}
 use Rattle.outside.specs.Files.{Files, without_file}
 use Rattle.table_store.specs.Kept.{IsKeptName}
-use Rattle.serving.specs.Kept.{same_name}
-use Rattle.serving.specs.declared.cursor.Cursor.{Cursor}
+use Rattle.cursors.specs.Kept.{same_name}
+use Rattle.cursors.specs.declared.cursor.Cursor.{Cursor}
 
 -- whether this is the name of a file
 abbrev pub is_file : List ℕ → Option (List ℕ) → Bool

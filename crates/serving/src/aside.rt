@@ -12,7 +12,7 @@ ghost use Rattle.serving.specs.Aside.{HasAnsweredFiles, IsAside, MayHaveCopy, fi
 ghost use Rattle.serving.specs.Closed.{has_file};
 
 use crate::closing::{holds_file, is_file};
-use crate::cursor::Cursor;
+use cursors::Cursor;
 use outside::{Depot, Name, NoMemory};
 use segment_file::segment_file_name;
 use std::alloc::Global;

@@ -8,7 +8,7 @@ ghost use Rattle.table_store.specs.Kept.{IsKeptName};
 ghost use Rattle.serving.specs.Closed as closed;
 ghost use Rattle.serving.specs.Closed.{AreGone, HasNoOther, IsGone, IsReleased, has_file, without_files};
 
-use crate::cursor::Cursor;
+use cursors::Cursor;
 use outside::{Depot, Name};
 use std::alloc::Global;
 use table_store::{StoreFault, is_kept_name, remove_kept};

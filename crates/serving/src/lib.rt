@@ -3,18 +3,11 @@
 //! when it was opened.
 #![tactic(auto)]
 
-mod answering;
 mod aside;
 mod closing;
-mod cursor;
 mod fault;
-mod gathering;
-mod opening;
-mod places;
 mod serving;
 
-pub use cursor::Cursor;
+pub use cursors::{Cursor, MOST_CURSOR_GROUPS, MOST_CURSORS};
 pub use fault::ServeFault;
-pub use gathering::MOST_CURSOR_GROUPS;
-pub use places::MOST_CURSORS;
 pub use serving::Serving;

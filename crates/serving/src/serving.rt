@@ -14,21 +14,19 @@ ghost use Rattle.table_store.specs.Calls.{CopiesFile, OnlyRemoves, ReadsNoByte};
 ghost use Rattle.table_store.specs.Images.{IsUnicode};
 ghost use Rattle.table_store.specs.Kept.{kept_name};
 ghost use Rattle.cursor_serve.specs.Machine.{closed, dropped, fetched, opened, replaced, stepped};
-ghost use Rattle.serving.specs.Answered.{next_stored};
+ghost use Rattle.cursors.specs.Answered.{next_stored};
 ghost use Rattle.serving.specs.Calls.{HasNoPlaceFor, LosesKept, ReadsOf, SameButOf, Serves};
 ghost use Rattle.serving.specs.Faults.{IsCloseFault, IsDropFault, IsOpenFault, IsReplaceFault, IsStepFault};
-ghost use Rattle.serving.specs.Kept.{AreCursors, IsOver, cursors_in, place_under};
-ghost use Rattle.serving.specs.declared.cursor.Cursor.{Cursor as ACursor};
+ghost use Rattle.cursors.specs.Kept.{AreCursors, IsOver, cursors_in, place_under};
+ghost use Rattle.cursors.specs.declared.cursor.Cursor.{Cursor as ACursor};
 
 use crate::ServeFault;
-use crate::answering::answer_to;
 use crate::aside::{is_too_large, let_go, put_files, set_aside};
 use crate::closing::release;
-use crate::cursor::Cursor;
-use crate::opening::{cursor_pool, new_cursor};
-use crate::places::{MOST_CURSORS, free_owner, place_of};
+use cursors::{Cursor, MOST_CURSORS, answer_to, cursor_pool, free_owner, new_cursor, place_of};
 use group_table::SlotPool;
 use outside::{Bytes, Depot, NoMemory, Shelf};
+use segment_scan::IdRooms;
 use sql_reply::answer;
 use std::alloc::Global;
 use table_schema::{BoundQuery, Table};
@@ -38,11 +36,13 @@ use table_store::{
 };
 use values::Columns;
 
-/// Cursors that are open, and the pool that their groups are in.
+/// Cursors that are open, the pool that their groups are in, and where the ids of the segments that
+/// they answer are put.
 #[derive(Drop)]
 pub struct Serving {
     pub pool: SlotPool,
     pub cursors: Vec<Cursor>,
+    pub rooms: IdRooms,
 }
 
 impl Serving {
@@ -53,7 +53,12 @@ impl Serving {
     {
         let pool = cursor_pool(alloc)?;
         let cursors = Vec::new(alloc);
-        Ok(Serving { pool, cursors })
+        let rooms = IdRooms::new(alloc);
+        Ok(Serving {
+            pool,
+            cursors,
+            rooms,
+        })
     }
 
     /// Whether a cursor of this name is open.
@@ -150,7 +155,8 @@ impl Serving {
             return Ok(0);
         }
         let to = own.answered + 1;
-        match answer_to(alloc, shelf, table, &mut self.pool, own, to) {
+        let rooms = &mut self.rooms;
+        match answer_to(alloc, shelf, table, &mut self.pool, own, to, rooms) {
             Ok(()) => Ok(left - 1),
             Err(fault) => Err(ServeFault::from(fault)),
         }
@@ -189,7 +195,8 @@ impl Serving {
         };
         let own = &mut self.cursors[at];
         let to = own.segments.len() as u32;
-        match answer_to(alloc, shelf, table, &mut self.pool, own, to) {
+        let rooms = &mut self.rooms;
+        match answer_to(alloc, shelf, table, &mut self.pool, own, to, rooms) {
             Ok(()) => {}
             Err(fault) => return Err(ServeFault::from(fault)),
         }

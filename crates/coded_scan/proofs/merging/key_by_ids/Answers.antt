@@ -1,4 +1,4 @@
-use Rattle.std.proofs.Common.{◌≡◌, ◌∙◌, ◌+◌, ◌++◌, ◌∷◌, [], ℕ, List, ap, sym, arith, get_or, take}
+use Rattle.std.proofs.Common.{◌∙◌, ◌++◌, ◌∷◌, [], ℕ, List, ap, sym, arith, take}
 use Rattle.std.proofs.lemmas.List.{take_all}
 use Rattle.values.specs.declared.value.Value.{Value}
 use Rattle.values.specs.Columns.{row_of}

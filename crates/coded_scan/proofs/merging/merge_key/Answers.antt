@@ -9,7 +9,6 @@ use Rattle.group_table.specs.Groups.{key_of, states_of}
 use Rattle.group_table.specs.Kept.{HaveValues, KeptGroups, groups_in}
 use Rattle.std.specs.FinMap as finite
 use Rattle.coded_columns.specs.Keyed.{IsKept, size_in}
-use Rattle.coded_columns.specs.Keys.{AreIdsAt}
 use Rattle.scan_engine.specs.Places.{IsRun}
 use Rattle.scan_engine.specs.Scanned.{AddsRows}
 use Rattle.scan_engine.proofs.AddLemmas.{adds_nothing, merged_within}
@@ -38,23 +37,6 @@ fill_ids-requires c =
       packed = holds.packed;
     })
 
-pub key_by_ids-requires-clause-same : goal.key_by_ids-requires-clause-same
-key_by_ids-requires-clause-same c = ap length c.deref.ensures.value ∙ c.in_ok-fill_ids.ensures.count
-
-pub key_by_ids-requires-clause-row : goal.key_by_ids-requires-clause-row
-key_by_ids-requires-clause-row c =
-    let segment = c.args.rows.segment.now in
-    let firsts : List ℕ = c.args.keyed.now.firsts.items in
-    let k : ℕ = c.args.key in
-    let row : ℕ = get_or firsts k 0 - 1 in
-    let first : c.index-first.result.now ≡ get_or firsts k 0 = c.index-first.ensures ∙ get_or_default firsts k c.index-first.result.now 0 c.requires.key in
-    let some : 0 < get_or firsts k 0 = omega (arith, first, c.if-first-eq0.false) in
-    record {
-      row = row;
-      within = (c.requires.may.holds.firsts k c.requires.key).within some;
-      are = subst (λ (l : List ℕ). AreIdsAt segment c.as_slice-columns.result.now row l) (sym c.deref.ensures.value) c.in_ok-fill_ids.ensures;
-    }
-
 pub fill_states-requires : goal.fill_states-requires
 fill_states-requires c =
     let q = c.args.query.now in
@@ -68,8 +50,8 @@ fill_states-requires c =
     let holds = c.requires.may.holds in
     in-agg (length firsts) c.requires.may.keys (passed_rows rows) q.aggs owns (λ own. k < size_in own) holds.states (λ agg own o. omega (arith, c.requires.key, o.size_is))
 
-pub merge_row-requires-clause-kinds : goal.merge_row-requires-clause-kinds
-merge_row-requires-clause-kinds c =
+pub merge_ids-requires-clause-merges : goal.merge_ids-requires-clause-merges
+merge_ids-requires-clause-merges c =
     let q = c.args.query.now in
     let rows = c.args.rows in
     let segment = rows.segment.now in
@@ -78,70 +60,23 @@ merge_row-requires-clause-kinds c =
     let owns = c.args.keyed.now.aggs.items in
     let k : ℕ = c.args.key in
     let first : c.index-first.result.now ≡ get_or firsts k 0 = c.index-first.ensures ∙ get_or_default firsts k c.index-first.result.now 0 c.requires.key in
-    let keys : List ℕ = c.requires.may.keys in
-    let holds = c.requires.may.holds in
-    let run : List (List Value) = run_of rows keys k in
-    let row_is : c.fill_states.new.row ≡ states_of q.aggs run = c.in_ok-fill_states.ensures ∙ row-states (length firsts) keys (passed_rows rows) q.aggs owns k holds.states c.requires.key in
-    ap kinds_of row_is ∙ kinds_states q.aggs run ∙ sym c.requires.table.kinds
-
-pub merge_row-requires-clause-key : goal.merge_row-requires-clause-key
-merge_row-requires-clause-key c =
-    let q = c.args.query.now in
-    let rows = c.args.rows in
-    let segment = rows.segment.now in
-    let places : List ℕ = passed rows in
-    let firsts : List ℕ = c.args.keyed.now.firsts.items in
-    let owns = c.args.keyed.now.aggs.items in
-    let k : ℕ = c.args.key in
-    let first : c.index-first.result.now ≡ get_or firsts k 0 = c.index-first.ensures ∙ get_or_default firsts k c.index-first.result.now 0 c.requires.key in
+    let at : ℕ = get_or firsts k 0 - 1 in
     let keys : List ℕ = c.requires.may.keys in
     let holds = c.requires.may.holds in
     let run : List (List Value) = run_of rows keys k in
     let some : 0 < get_or firsts k 0 = omega (arith, first, c.if-first-eq0.false) in
-    let values : c.in_ok-own.own ≡ key_of q.groups (row_of (table_of segment).columns (get_or firsts k 0 - 1)) =
-    c.in_ok-own.ensures (get_or firsts k 0 - 1) ((holds.firsts k c.requires.key).within some) (subst (λ (l : List ℕ). AreIdsAt segment c.as_slice-columns.result.now (get_or firsts k 0 - 1) l) (sym c.deref.ensures.value) c.in_ok-fill_ids.ensures)
-    ∙ ap (λ (gs : List ℕ). key_of gs (row_of (table_of segment).columns (get_or firsts k 0 - 1))) c.as_slice-columns.ensures in
-    let r : IsRun q.groups c.in_ok-own.own run = key-run segment q.groups q.aggs keys places c.args.keyed.now holds k c.in_ok-own.own c.requires.key some values in
-    r.width ∙ sym c.requires.table.columns
-
-pub merge_row-requires-clause-values : goal.merge_row-requires-clause-values
-merge_row-requires-clause-values c =
-    let q = c.args.query.now in
-    let rows = c.args.rows in
-    let segment = rows.segment.now in
-    let places : List ℕ = passed rows in
-    let firsts : List ℕ = c.args.keyed.now.firsts.items in
-    let owns = c.args.keyed.now.aggs.items in
-    let k : ℕ = c.args.key in
-    let first : c.index-first.result.now ≡ get_or firsts k 0 = c.index-first.ensures ∙ get_or_default firsts k c.index-first.result.now 0 c.requires.key in
-    let keys : List ℕ = c.requires.may.keys in
-    let holds = c.requires.may.holds in
-    let run : List (List Value) = run_of rows keys k in
     let row_is : c.fill_states.new.row ≡ states_of q.aggs run = c.in_ok-fill_states.ensures ∙ row-states (length firsts) keys (passed_rows rows) q.aggs owns k holds.states c.requires.key in
-    let some : 0 < get_or firsts k 0 = omega (arith, first, c.if-first-eq0.false) in
-    let values : c.in_ok-own.own ≡ key_of q.groups (row_of (table_of segment).columns (get_or firsts k 0 - 1)) =
-    c.in_ok-own.ensures (get_or firsts k 0 - 1) ((holds.firsts k c.requires.key).within some) (subst (λ (l : List ℕ). AreIdsAt segment c.as_slice-columns.result.now (get_or firsts k 0 - 1) l) (sym c.deref.ensures.value) c.in_ok-fill_ids.ensures)
-    ∙ ap (λ (gs : List ℕ). key_of gs (row_of (table_of segment).columns (get_or firsts k 0 - 1))) c.as_slice-columns.ensures in
-    let r : IsRun q.groups c.in_ok-own.own run = key-run segment q.groups q.aggs keys places c.args.keyed.now holds k c.in_ok-own.own c.requires.key some values in
-    λ any. subst (λ (s : List AggState). HaveValues s) (sym row_is) (states_have q.aggs run r.some)
-
-pub merge_row-requires-clause-fits : goal.merge_row-requires-clause-fits
-merge_row-requires-clause-fits c =
-    let q = c.args.query.now in
-    let rows = c.args.rows in
-    let segment = rows.segment.now in
-    let places : List ℕ = passed rows in
-    let firsts : List ℕ = c.args.keyed.now.firsts.items in
-    let owns = c.args.keyed.now.aggs.items in
-    let k : ℕ = c.args.key in
-    let first : c.index-first.result.now ≡ get_or firsts k 0 = c.index-first.ensures ∙ get_or_default firsts k c.index-first.result.now 0 c.requires.key in
-    let keys : List ℕ = c.requires.may.keys in
-    let holds = c.requires.may.holds in
-    let run : List (List Value) = run_of rows keys k in
     let fits : RowFits c.fill_states.new.row (length run) = subst (λ (s : List AggState). RowFits s (length run)) (sym c.in_ok-fill_states.ensures) (row-fits (length firsts) keys (passed_rows rows) q.aggs owns k holds.states c.requires.key) in
     let at_most : length run ≤ most_values =
     omega (arith, in_slot-few k keys (passed_rows rows), length-map places (row_of (table_of segment).columns), passed-few rows, segment.coded.at_most) in
-    merged_within (groups_in (in_pool c.args.table.now c.args.pool.now)) c.in_ok-own.own c.fill_states.new.row (length run) at_most c.requires.may.fits fits
+    let some_run : 0 < length run = (key-run segment q.groups q.aggs keys places c.args.keyed.now holds k (key_of q.groups (row_of (table_of segment).columns at)) c.requires.key some (λ i. key_of q.groups (row_of (table_of segment).columns at))).some in
+    record {
+      row = record { row = at; within = (holds.firsts k c.requires.key).within some; are = c.in_ok-fill_ids.ensures };
+      as_many = c.requires.table.columns ∙ ap length (sym c.as_slice-columns.ensures);
+      kinds = ap kinds_of row_is ∙ kinds_states q.aggs run ∙ sym c.requires.table.kinds;
+      values = λ any. subst (λ (s : List AggState). HaveValues s) (sym row_is) (states_have q.aggs run some_run);
+      fits = λ row lt are. merged_within (groups_in (in_pool c.args.table.now c.args.pool.now)) (key_of c.as_slice-columns.result.now (row_of (table_of segment).columns row)) c.fill_states.new.row (length run) at_most c.requires.may.fits fits;
+    }
 
 pub returns-then-first-eq0-clause-adds : goal.returns-then-first-eq0-clause-adds
 returns-then-first-eq0-clause-adds c = λ keys holds.
@@ -171,20 +106,20 @@ returns-in-Err-clause-adds c = λ keys holds.
     let owns = c.args.keyed.now.aggs.items in
     let k : ℕ = c.args.key in
     let first : c.index-first.result.now ≡ get_or firsts k 0 = c.index-first.ensures ∙ get_or_default firsts k c.index-first.result.now 0 c.requires.key in
+    let at : ℕ = get_or firsts k 0 - 1 in
     let run : List (List Value) = run_of rows keys k in
     let some : 0 < get_or firsts k 0 = omega (arith, first, c.if-first-eq0.false) in
-    let values : c.in_ok-own.own ≡ key_of q.groups (row_of (table_of segment).columns (get_or firsts k 0 - 1)) =
-    c.in_ok-own.ensures (get_or firsts k 0 - 1) ((holds.firsts k c.requires.key).within some) (subst (λ (l : List ℕ). AreIdsAt segment c.as_slice-columns.result.now (get_or firsts k 0 - 1) l) (sym c.deref.ensures.value) c.in_ok-fill_ids.ensures)
-    ∙ ap (λ (gs : List ℕ). key_of gs (row_of (table_of segment).columns (get_or firsts k 0 - 1))) c.as_slice-columns.ensures in
-    let r : IsRun q.groups c.in_ok-own.own run = key-run segment q.groups q.aggs keys places c.args.keyed.now holds k c.in_ok-own.own c.requires.key some values in
+    let within : at < segment.count = (holds.firsts k c.requires.key).within some in
+    let own : List Value = key_of c.as_slice-columns.result.now (row_of (table_of segment).columns at) in
+    let r : IsRun q.groups own run = key-run segment q.groups q.aggs keys places c.args.keyed.now holds k own c.requires.key some (ap (λ (gs : List ℕ). key_of gs (row_of (table_of segment).columns at)) c.as_slice-columns.ensures) in
     record {
       ok = tt;
       full = λ bad.
-          let full = c.merge_row.ensures.full.0 (c.in-Err.is ∙ same_fault _ _ bad) in
-          no_room_for_run q run c.in_ok-own.own (in_pool c.args.table.now c.args.pool.now) r full.0 full.1;
+          let full = c.in-Err.ensures.full (same_fault _ _ bad) in
+          no_room_for_run q run own (in_pool c.args.table.now c.args.pool.now) r (full.0 at within c.in_ok-fill_ids.ensures) full.1;
       filled = λ bad.
-          let full = c.merge_row.ensures.full.0 (c.in-Err.is ∙ same_fault _ _ bad) in
-          let same : in_pool c.merge_row.new.self c.merge_row.new.pool ≡ in_pool c.args.table.now c.args.pool.now = λ i. in_pool (c.in-Err.ensures.err.0 i) (c.in-Err.ensures.err.1 i) in
+          let full = c.in-Err.ensures.full (same_fault _ _ bad) in
+          let same : in_pool c.merge_ids.new.table c.merge_ids.new.pool ≡ in_pool c.args.table.now c.args.pool.now = λ i. in_pool (c.in-Err.ensures.err.0 i) (c.in-Err.ensures.err.1 i) in
           ap (λ (t : KeptGroups). finite.len (groups_in t)) same ∙ full.1;
     }
 
@@ -198,16 +133,16 @@ returns-clause-adds c = λ keys holds.
     let owns = c.args.keyed.now.aggs.items in
     let k : ℕ = c.args.key in
     let first : c.index-first.result.now ≡ get_or firsts k 0 = c.index-first.ensures ∙ get_or_default firsts k c.index-first.result.now 0 c.requires.key in
+    let at : ℕ = get_or firsts k 0 - 1 in
     let run : List (List Value) = run_of rows keys k in
+    let some : 0 < get_or firsts k 0 = omega (arith, first, c.if-first-eq0.false) in
+    let within : at < segment.count = (holds.firsts k c.requires.key).within some in
+    let own : List Value = key_of c.as_slice-columns.result.now (row_of (table_of segment).columns at) in
+    let r : IsRun q.groups own run = key-run segment q.groups q.aggs keys places c.args.keyed.now holds k own c.requires.key some (ap (λ (gs : List ℕ). key_of gs (row_of (table_of segment).columns at)) c.as_slice-columns.ensures) in
     let row_is : c.fill_states.new.row ≡ states_of q.aggs run = c.in_ok-fill_states.ensures ∙ row-states (length firsts) keys (passed_rows rows) q.aggs owns k holds.states c.requires.key in
     let fits : RowFits c.fill_states.new.row (length run) = subst (λ (s : List AggState). RowFits s (length run)) (sym c.in_ok-fill_states.ensures) (row-fits (length firsts) keys (passed_rows rows) q.aggs owns k holds.states c.requires.key) in
-    let some : 0 < get_or firsts k 0 = omega (arith, first, c.if-first-eq0.false) in
-    let values : c.in_ok-own.own ≡ key_of q.groups (row_of (table_of segment).columns (get_or firsts k 0 - 1)) =
-    c.in_ok-own.ensures (get_or firsts k 0 - 1) ((holds.firsts k c.requires.key).within some) (subst (λ (l : List ℕ). AreIdsAt segment c.as_slice-columns.result.now (get_or firsts k 0 - 1) l) (sym c.deref.ensures.value) c.in_ok-fill_ids.ensures)
-    ∙ ap (λ (gs : List ℕ). key_of gs (row_of (table_of segment).columns (get_or firsts k 0 - 1))) c.as_slice-columns.ensures in
-    let r : IsRun q.groups c.in_ok-own.own run = key-run segment q.groups q.aggs keys places c.args.keyed.now holds k c.in_ok-own.own c.requires.key some values in
     record {
-      ok = adds_run q (length run) run c.in_ok-own.own c.fill_states.new.row (in_pool c.args.table.now c.args.pool.now) (in_pool c.merge_row.new.self c.merge_row.new.pool) c.requires.table r row_is fits c.in_default.ensures.ok;
+      ok = adds_run q (length run) run own c.fill_states.new.row (in_pool c.args.table.now c.args.pool.now) (in_pool c.merge_ids.new.table c.merge_ids.new.pool) c.requires.table r row_is fits (c.in_default.ensures.ok at within c.in_ok-fill_ids.ensures);
       full = λ bad. absurd cc;
       filled = λ bad. absurd cc;
     }

@@ -56,8 +56,8 @@ serve_line-requires-clause-small g c =
     let start : Stage Kept = beside (kept_of c.args.session.now) (world g.I.Shelf g.D.Shelf g.O.Sink g.N.Sink c.args.inputs.now c.args.depot.now c.args.out.now c.args.notes.now) in
     let now : Stage Kept = beside (kept_of c.lines.session) (world g.I.Shelf g.D.Shelf g.O.Sink g.N.Sink c.lines.inputs c.lines.depot c.lines.out c.lines.notes) in
     let small = number_small (c.lines.count + 1) c.args.text.now
-        (more_lines lines_steps (text.lines c.args.text.now) start now c.lines.count c.lines.line-iterator c.in-Some.line c.next.new.self c.lines.invariant.left c.in-Some.ensures.steps)
-        c.requires.short in
+    (more_lines lines_steps (text.lines c.args.text.now) start now c.lines.count c.lines.line-iterator c.in-Some.line c.next.new.self c.lines.invariant.left c.in-Some.ensures.steps)
+    c.requires.short in
     omega (arith, small, c.in-Some-count_line.ensures.numbered.0)
 
 pub returns-in-Err-clause-lines : goal.returns-in-Err-clause-lines

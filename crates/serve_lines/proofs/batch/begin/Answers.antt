@@ -1,6 +1,6 @@
 use Rattle.std.proofs.Common.{None, Ok, ap, subst, sym}
 use Rattle.outside.specs.Seen.{Seen, seen}
-use Rattle.serving.specs.Kept.{cursors_in}
+use Rattle.cursors.specs.Kept.{cursors_in}
 use Rattle.command_words.specs.declared.fault.Fault.TheVariants as fault
 use Rattle.serve_lines.specs.Calls.{Begins}
 use Rattle.serve_lines.proofs.BeginLemmas.{at_start, begins_not, begins_well, begun_not, faults_as, memory_after, none_after}

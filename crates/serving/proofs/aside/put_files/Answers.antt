@@ -1,7 +1,7 @@
 use Rattle.std.proofs.Common.{rules, vec_len, ◌≡◌, ◌∙◌, ◌+◌, ◌++◌, ◌∷◌, ◌<◌, ◌≤◌, [], ℕ, List, Option, get_or, length, length-append, length-set, set, sym, ap, arith}
 use Rattle.std.specs.Global.{Vec}
 use Rattle.serving.specs.Aside.{with_files}
-use Rattle.serving.specs.declared.cursor.Cursor.{Cursor}
+use Rattle.cursors.specs.declared.cursor.Cursor.{Cursor}
 use Rattle.serving.proofs.AsideLemmas.{with_last}
 use Rattle.serving.proofs.aside.put_files.Goals as goal
 

@@ -1,6 +1,6 @@
 use Rattle.std.proofs.Common.{◌≡◌, ◌≢◌, ◌<◌, ℕ, Some, false, slice_get}
 use Rattle.serving.specs.Closed.{has_file}
-use Rattle.serving.specs.declared.cursor.Cursor.{Cursor}
+use Rattle.cursors.specs.declared.cursor.Cursor.{Cursor}
 use Rattle.serving.proofs.closing.has_other.Given as goal
 
 abbrev pub invariant-cursors : goal.invariant-cursors

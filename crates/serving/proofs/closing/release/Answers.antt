@@ -6,7 +6,7 @@ use Rattle.table_store.specs.declared.fault.StoreFault.{StoreFault}
 use Rattle.table_store.specs.declared.fault.StoreFault.TheVariants.{WriteFault}
 use Rattle.query_executor.proofs.EndLemmas.{Done, Failed}
 use Rattle.serving.specs.Closed.{has_file}
-use Rattle.serving.specs.declared.cursor.Cursor.{Cursor}
+use Rattle.cursors.specs.declared.cursor.Cursor.{Cursor}
 use Rattle.serving.proofs.CallLemmas.{no_err, removes_after, removes_not}
 use Rattle.serving.proofs.ClosedLemmas.{got_at}
 use Rattle.serving.proofs.GoneLemmas.{HaveGone, gone_kept, more_gone}

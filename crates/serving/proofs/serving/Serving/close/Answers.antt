@@ -3,8 +3,8 @@ use Rattle.std.specs.List.{AllByRecursion, remove}
 use Rattle.cursor_serve.specs.Machine.{closed}
 use Rattle.serving.specs.Calls.{Serves}
 use Rattle.serving.specs.Closed.{AreGone}
-use Rattle.serving.specs.Kept.{AreCursors, IsOver, cursors_in, place_under}
-use Rattle.serving.specs.declared.cursor.Cursor.{Cursor}
+use Rattle.cursors.specs.Kept.{AreCursors, IsOver, cursors_in, place_under}
+use Rattle.cursors.specs.declared.cursor.Cursor.{Cursor}
 use Rattle.serving.proofs.ClosedLemmas.{closes_fault, closes_none, closes_out, cursors_out, got_at, over_out, place_named, write_or_memory}
 use Rattle.serving.proofs.GoneLemmas.{gone_kept}
 use Rattle.serving.proofs.PlaceLemmas.{AtPlace, IsOther, at_place, place_within}

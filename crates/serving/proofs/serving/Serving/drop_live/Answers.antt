@@ -6,9 +6,9 @@ use Rattle.table_store.specs.declared.fault.StoreFault.{StoreFault}
 use Rattle.cursor_serve.specs.Machine.{dropped}
 use Rattle.serving.specs.Aside.{IsAside, MayHaveCopy, is_awaited_in, kept_if, with_copy}
 use Rattle.serving.specs.Calls.{Serves}
-use Rattle.serving.specs.Kept.{AreCursors, IsOver, cursors_in}
+use Rattle.cursors.specs.Kept.{AreCursors, IsOver, cursors_in}
 use Rattle.serving.specs.declared.aside.Aside.{Aside}
-use Rattle.serving.specs.declared.cursor.Cursor.{Cursor}
+use Rattle.cursors.specs.declared.cursor.Cursor.{Cursor}
 use Rattle.serving.proofs.AsideLemmas.{cursors_left, drops, drops_missed, drops_none, failed_so, lost_or_missed, others_copied, others_dropped, over_left}
 use Rattle.serving.proofs.serving.Serving.drop_live.Goals as goal
 

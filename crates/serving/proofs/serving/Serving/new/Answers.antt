@@ -1,4 +1,4 @@
-use Rattle.serving.proofs.NewLemmas.{no_cursors}
+use Rattle.cursors.proofs.NewLemmas.{no_cursors}
 use Rattle.serving.proofs.serving.Serving.new.Goals as goal
 
 pub returns-clause-cursors : goal.returns-clause-cursors

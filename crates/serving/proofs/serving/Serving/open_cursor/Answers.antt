@@ -5,8 +5,8 @@ use Rattle.segment_file.specs.Names.{IsSegmentName}
 use Rattle.cursor_serve.specs.Machine.{opened}
 use Rattle.cursor_serve.proofs.SoundLemmas.{all_joined}
 use Rattle.serving.specs.Calls.{Serves}
-use Rattle.serving.specs.Kept.{AreCursors, IsOver, cursors_in, owners_of, place_under}
-use Rattle.serving.specs.declared.cursor.Cursor.{Cursor}
+use Rattle.cursors.specs.Kept.{AreCursors, IsOver, cursors_in, owners_of, place_under}
+use Rattle.cursors.specs.declared.cursor.Cursor.{Cursor}
 use Rattle.serving.proofs.OpenedLemmas.{cursors_opened, none_some, opens_made, opens_many, opens_taken, owner_free}
 use Rattle.serving.proofs.PlaceLemmas.{cursors_aside}
 use Rattle.serving.proofs.serving.Serving.open_cursor.Goals as goal

@@ -12,9 +12,9 @@ use Rattle.query_executor.proofs.EndLemmas.{Done, Failed}
 use Rattle.cursor_serve.specs.Machine.{replaced}
 use Rattle.serving.specs.Aside.{IsAside, is_awaited_in, kept_if, with_copy}
 use Rattle.serving.specs.Calls.{Serves}
-use Rattle.serving.specs.Kept.{AreCursors, IsOver, cursors_in}
+use Rattle.cursors.specs.Kept.{AreCursors, IsOver, cursors_in}
 use Rattle.serving.specs.declared.aside.Aside.{Aside}
-use Rattle.serving.specs.declared.cursor.Cursor.{Cursor}
+use Rattle.cursors.specs.declared.cursor.Cursor.{Cursor}
 use Rattle.values.specs.Columns.{rows_of}
 use Rattle.values.specs.declared.value.Value.{Value}
 use Rattle.segment_file.specs.Image.{CanHold, image}

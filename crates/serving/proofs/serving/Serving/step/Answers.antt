@@ -3,13 +3,13 @@ use Rattle.query_executor.proofs.EndLemmas.{Done, Failed}
 use Rattle.std.proofs.Common.{◌≡◌, ◌∙◌, ◌+◌, ◌-◌, ◌<◌, ℕ, List, Some, Ok, Err, get_or, length, set, sym, ap, subst, arith}
 use Rattle.outside.specs.Seen.{Seen, seen}
 use Rattle.cursor_serve.specs.Machine.{stepped}
-use Rattle.serving.specs.Answered.{IsMoved, next_stored}
+use Rattle.cursors.specs.Answered.{IsMoved, next_stored}
 use Rattle.serving.specs.Calls.{ReadsOf, Serves}
 use Rattle.serving.specs.Faults.{of_query}
-use Rattle.serving.specs.Kept.{AreCursors, IsCursorIn, IsOver, cursors_in, gatherer, place_under}
-use Rattle.serving.specs.declared.cursor.Cursor.{Cursor}
+use Rattle.cursors.specs.Kept.{AreCursors, IsCursorIn, IsOver, cursors_in, keeper, place_under}
+use Rattle.cursors.specs.declared.cursor.Cursor.{Cursor}
 use Rattle.serving.specs.declared.fault.ServeFault.{ServeFault}
-use Rattle.serving.proofs.PlaceLemmas.{AtPlace, IsOther, all_same, at_place, cursors_aside, cursors_moved, each_at, each_set, gatherer_free, over_moved, place_within, puts_moved, set_same}
+use Rattle.serving.proofs.PlaceLemmas.{AtPlace, IsOther, all_same, at_place, cursors_aside, cursors_moved, each_at, each_set, keeper_free, over_moved, place_within, puts_moved, set_same}
 use Rattle.serving.proofs.StepLemmas.{steps_none, steps_moved, steps_failed, steps_not}
 use Rattle.serving.proofs.serving.Serving.step.Goals as goal
 
@@ -27,7 +27,7 @@ index_mut-own-requires g c =
 
 pub answer_to-requires-clause-pool : goal.answer_to-requires-clause-pool
 answer_to-requires-clause-pool g c =
-    (c.requires.cursors.pool_is, c.requires.cursors.free gatherer (gatherer_free c.args.self.now.pool c.args.self.now.cursors.items c.requires.cursors.each))
+    (c.requires.cursors.pool_is, c.requires.cursors.free keeper (keeper_free c.args.self.now.pool c.args.self.now.cursors.items c.requires.cursors.each))
 
 pub answer_to-requires-clause-cursor : goal.answer_to-requires-clause-cursor
 answer_to-requires-clause-cursor g c =
@@ -92,7 +92,7 @@ returns-in-Err-clause-cursors g c =
     let it : IsCursorIn pool own = each_at (IsCursorIn pool) ds at own own lt is c.requires.cursors.each in
     let new = c.answer_to.new.pool in
     subst (AreCursors new) (sym (ap (set ds at) c.in-Err.ensures.same.0 ∙ set_same ds at own own lt is))
-    (cursors_aside gatherer pool new ds c.in-Err.ensures.same.1 c.requires.cursors (gatherer_free pool ds c.requires.cursors.each) c.answer_to.ensures.closed)
+    (cursors_aside keeper pool new ds c.in-Err.ensures.same.1 c.requires.cursors (keeper_free pool ds c.requires.cursors.each) c.answer_to.ensures.closed)
 
 pub overflow_cast-left : goal.overflow_cast-left
 overflow_cast-left g c =
