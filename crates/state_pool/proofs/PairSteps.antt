@@ -10,6 +10,16 @@ use Rattle.state_pool.proofs.CellLemmas.{other_row, row_before}
 use Rattle.state_pool.proofs.OwnerLemmas.{kinds_fit, own_kinds}
 use Rattle.state_pool.proofs.PoolSteps.{known_owner, seen_holder, seen_row, seen_long, seen_states, seen_rewrites, seen_row_kept}
 
+-- as many kinds as the owner of a slot is kept with
+module _ (owners : List Owner) (holders : List (Option ℕ)) (width : ℕ) (cells : List AggState) (free : List ℕ)
+    (kept : IsKept owners (pool_in owners holders width cells) free) (pool : Pool) (pool_is : pool_in owners holders width cells ≡ pool)
+    (owner number : ℕ) (slot : Place) (slot_is : ◌≡◌ {A = Place} (record { owner = owner; number = number }) slot) (out : IsOut pool slot)
+    (own : Owner) (is : own ≡ get_or owners owner own) (n : ℕ) (count : n ≡ length own.kinds) where
+  pub counted : n ≡ length (kinds_at pool slot.owner)
+  counted = count
+      ∙ ap length (sym (own_kinds owners holders width cells free kept owner own (known_owner owners holders width cells free kept pool pool_is owner number slot slot_is out) is))
+      ∙ (λ i. length (kinds_at (pool_is i) (ap (λ (p : Place). p.owner) slot_is i)))
+
 module _ (owners : List Owner) (holders : List (Option ℕ)) (width : ℕ) (cells : List AggState) (free : List ℕ)
     (kept : IsKept owners (pool_in owners holders width cells) free) (pool : Pool) (pool_is : pool_in owners holders width cells ≡ pool)
     (owner number : ℕ) (slot : Place) (slot_is : ◌≡◌ {A = Place} (record { owner = owner; number = number }) slot) (out : IsOut pool slot)
@@ -17,9 +27,7 @@ module _ (owners : List Owner) (holders : List (Option ℕ)) (width : ℕ) (cell
     (apart : from.owner ≢ slot.owner) (kinds : (kinds_of (states_at pool slot) ≡ kinds_of (states_at pool from)) ⊎ (kinds_at pool slot.owner ≡ kinds_at pool from.owner))
     (own : Owner) (is : own ≡ get_or owners owner own) (n : ℕ) (count : n ≡ length own.kinds) where
   few : n ≡ length (kinds_at pool slot.owner)
-  few = count
-      ∙ ap length (sym (own_kinds owners holders width cells free kept owner own (known_owner owners holders width cells free kept pool pool_is owner number slot slot_is out) is))
-      ∙ (λ i. length (kinds_at (pool_is i) (ap (λ (p : Place). p.owner) slot_is i)))
+  few = counted owners holders width cells free kept pool pool_is owner number slot slot_is out own is n count
 
   few_from : n ≡ length (kinds_at pool from.owner)
   few_from = few ∙ by kinds
