@@ -1,9 +1,9 @@
 -- The states of groups copied one after the other into a list, and put back from there.
-use Rattle.std.proofs.Common.{◌≡◌, ◌≢◌, ◌∙◌, ℕ, zero, suc, ◌+◌, ◌-◌, ◌*◌, ◌/◌, ◌<◌, ◌≤◌, true, false, cond, nat_eq, List, [], ◌∷◌, ◌++◌, length, map, get_or, take, drop, slice_get, Option, Some, None, refl, sym, ap, subst, arith, is_some, unwrap_or, length-append, append-nil, append_assoc}
-use Rattle.std.proofs.lemmas.List.{map-append, length-map, take_all, flat_map_more}
+use Rattle.std.proofs.Common.{◌≡◌, ◌≢◌, ◌∙◌, ℕ, zero, suc, ◌+◌, ◌-◌, ◌*◌, ◌/◌, ◌<◌, ◌≤◌, true, false, cond, nat_eq, List, [], ◌∷◌, ◌++◌, length, map, get_or, take, drop, slice_get, Option, Some, None, refl, sym, ap, subst, arith, is_some, unwrap_or, length-append, length-drop, append-nil, append_assoc}
+use Rattle.std.proofs.lemmas.List.{map-append, length-map, length-take-le, take_all, flat_map_more}
 use Rattle.std.proofs.lemmas.List.Folds.{flat_map-map}
 use Rattle.std.proofs.lemmas.Nat.{mul-le}
-use Rattle.std.proofs.Math.Nat.{mul-div_cancel_left}
+use Rattle.std.proofs.Math.Nat.{mul-div_cancel_left, zero-mul}
 use Rattle.std.proofs.Math.Seq.{take-add}
 use native.Mathlib.Nat.{suc-mul}
 use Rattle.std.specs.FinMap as finite
@@ -102,10 +102,13 @@ push_entry : (P : List Value × Place → Type 0) (es : Entries) (e : List Value
 push_entry P [] e h one = (one, tt)
 push_entry P (x ∷ es) e h one = (h.0, push_entry P es e h.1 one)
 
-entry_at : (es : Entries) (at : ℕ) (e : List Value × Place) → Some e ≡ slice_get es at → take (at + 1) es ≡ take at es ++ e ∷ []
-entry_at [] at e is = absurd (none_some (sym is))
-entry_at (x ∷ es) zero e is = let same : e ≡ x = cc in ap (λ e. e ∷ []) (sym same)
-entry_at (x ∷ es) (suc at) e is = ap (λ l. x ∷ l) (entry_at es at e is)
+item_at : {X : Type 0} (es : List X) (at : ℕ) (e : X) → Some e ≡ slice_get es at → take (suc at) es ≡ take at es ++ e ∷ []
+item_at [] at e is = absurd (none_some (sym is))
+item_at (x ∷ es) zero e is = let same : e ≡ x = cc in ap (λ e. e ∷ []) (sym same)
+item_at (x ∷ es) (suc at) e is = ap (λ l. x ∷ l) (item_at es at e is)
+
+entry_at : {X : Type 0} (es : List X) (at : ℕ) (e : X) → Some e ≡ slice_get es at → take (at + 1) es ≡ take at es ++ e ∷ []
+entry_at es at e is = ap (λ n. take n es) (let on : at + 1 ≡ suc at = omega arith in on) ∙ item_at es at e is
 
 -- the states of the first groups are in a list
 pub record Saving (t : PooledTable) (pool : Pool) (items : List AggState) (at : ℕ) : Type 0 where
@@ -246,7 +249,7 @@ same_factor : (n k m : ℕ) → 0 < n → n * k ≡ n * m → k ≡ m
 same_factor n k m lt is = sym (mul-div_cancel_left k lt) ∙ ap (λ p. p / n) is ∙ mul-div_cancel_left m lt
 
 long_rows : (pool : Pool) (k : ℕ) (ss : List Place) → AllByRecursion (λ s. length (states_at pool s) ≡ k) ss → length (flat_map (states_at pool) ss) ≡ length ss * k
-long_rows pool k [] each = refl
+long_rows pool k [] each = sym (zero-mul k)
 long_rows pool k (s ∷ ss) each =
     let one : suc (length ss) * k ≡ length ss * k + k = suc-mul (length ss) k in
     omega (arith, one, length-append (states_at pool s) (flat_map (states_at pool) ss), long_rows pool k ss each.1, each.0)
@@ -279,10 +282,13 @@ take_apart zero ss d = tt
 take_apart (suc n) [] d = tt
 take_apart (suc n) (s ∷ ss) d = (take_numbers (λ m. nat_eq s.number m ≡ false) n ss d.0, take_apart n ss d.1)
 
+get_place : (es : Entries) (at : ℕ) (key : List Value) (own : Place) → Some (key, own) ≡ slice_get es at → Some own ≡ slice_get (places es) at
+get_place [] at key own is = absurd (none_some (sym is))
+get_place (e ∷ es) zero key own is = let same : (key, own) ≡ e = cc in ap (λ (e : List Value × Place). Some e.1) same
+get_place (e ∷ es) (suc at) key own is = get_place es at key own is
+
 places_take : (es : Entries) (at : ℕ) (key : List Value) (own : Place) → Some (key, own) ≡ slice_get es at → take (at + 1) (places es) ≡ take at (places es) ++ own ∷ []
-places_take [] at key own is = absurd (none_some (sym is))
-places_take (e ∷ es) zero key own is = let same : (key, own) ≡ e = cc in ap (λ (e : List Value × Place). e.1 ∷ []) (sym same)
-places_take (e ∷ es) (suc at) key own is = ap (λ l. e.1 ∷ l) (places_take es at key own is)
+places_take es at key own is = entry_at (places es) at own (get_place es at key own is)
 
 -- the first of the groups have the states of a list
 pub record PutBack (t : PooledTable) (before : Pool) (states : List AggState) (k : ℕ) (es : Entries) (pool : Pool) (at : ℕ) : Type 0 where
@@ -293,7 +299,7 @@ pub record PutBack (t : PooledTable) (before : Pool) (states : List AggState) (k
 
 module _ (t : PooledTable) (before : Pool) (states : List AggState) (k : ℕ) (es : Entries) where
   pub put_none : (pool : Pool) → Shortened t before pool es → PutBack t before states k es pool 0
-  put_none pool short = record { own = short.held_are; keeps = short.keeps; each = tt; states_are = refl }
+  put_none pool short = record { own = short.held_are; keeps = short.keeps; each = tt; states_are = ap (λ n. take n states) (sym (zero-mul k)) }
 
   -- the states of a group are within the list
   pub row_fits : (at count : ℕ) → at < count → length states ≡ count * k → at * k + k ≤ length states
@@ -303,6 +309,9 @@ module _ (t : PooledTable) (before : Pool) (states : List AggState) (k : ℕ) (e
       let whole : suc at * k ≤ count * k = mul-le (suc at) k count k next same in
       let one : suc at * k ≡ at * k + k = suc-mul at k in
       omega (arith, one, whole, len)
+
+  pub row_long : (at count : ℕ) → at < count → length states ≡ count * k → length (take k (drop (at * k) states)) ≡ k
+  row_long at count lt len = length-take-le k (drop (at * k) states) (omega (arith, row_fits at count lt len, length-drop (at * k) states))
 
   module _ (pool : Pool) (at : ℕ) (put : PutBack t before states k es pool at) (key : List Value) (own : Place) (is : Some (key, own) ≡ slice_get es at) where
     taken : AllByRecursion (IsSlotOf pool t.owner) (take at (places es) ++ own ∷ [])
@@ -376,7 +385,7 @@ module _ (t : PooledTable) (before : Pool) (states : List AggState) (k : ℕ) (e
     its_each : AllByRecursion (λ s. length (states_at pool s) ≡ k) (places es)
     its_each = subst (AllByRecursion (λ s. length (states_at pool s) ≡ k)) whole put.each
 
-    were : ℕ
+    abbrev were : ℕ
     were = length (kinds_at first was.owner)
 
     was_each : AllByRecursion (λ s. length (states_at first s) ≡ were) (places es)
