@@ -409,3 +409,11 @@ module _ (t : PooledTable) (before : Pool) (states : List AggState) (k : ℕ) (e
         (table_held was first has.table)
         (ap (λ (es : Entries). map (states_at pool) (places es)) (sym was_slots) ∙ rows_by (places es) its_each was_each (its_states ∙ was_states)
         ∙ ap (λ (es : Entries). map (states_at first) (places es)) was_slots)
+
+-- ---- how long the list is
+
+pub saved_long : (was : PooledTable) (before : Pool) (states : List AggState) → HasSaved was before states → length states ≡ length was.slots * length (kinds_at before was.owner)
+saved_long was before states has =
+    ap length (has.states_are ∙ sym (flat_map-map (states_at before) (λ (e : List Value × Place). e.1) was.slots))
+    ∙ long_rows before (length (kinds_at before was.owner)) (places was.slots) (slots_in (λ s. length (states_at before s) ≡ length (kinds_at before was.owner)) was.slots has.each)
+    ∙ ap (λ n. n * length (kinds_at before was.owner)) (length-map was.slots (λ (e : List Value × Place). e.1))
