@@ -17,6 +17,7 @@ impl GroupTable {
         ensures { IfOk result (λ _. HasSaved self.now pool.now into.new.items) }
     {
         into.clear();
+        into.reserve(self.slots.len().saturating_mul(pool.kind_count(self.owner)))?;
         for at in 0..self.slots.len() {
             let Some((_, own)) = self.slots.get_index(at) else {
                 unreachable!();

@@ -4,7 +4,7 @@ use Rattle.group_table.proofs.SavedSteps as steps
 use Rattle.group_table.proofs.table.GroupTable.save.Goals as goal
 
 pub loop-at-init : goal.loop-at-init
-loop-at-init c = steps.saving_none c.args.self.now c.args.pool.now c.clear.new.self.items c.clear.ensures.items
+loop-at-init c = steps.saving_none c.args.self.now c.args.pool.now c.reserve.new.self.items (c.reserve.ensures.items ∙ c.clear.ensures.items)
 
 pub append_states-requires : goal.append_states-requires
 append_states-requires c =
