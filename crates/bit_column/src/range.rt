@@ -1,6 +1,7 @@
 //! A range of ids is read from a section of a file.
 ghost use Rattle.std.specs.Prelude.{◌≡◌, ◌≤◌, ◌<◌, ◌+◌, ◌-◌, ◌*◌, ◌%◌, ◌++◌, ◌∷◌, [], All, Err, IfOk, IfSome, OnOk, length};
 ghost use Rattle.outside.specs.Seen.{seen};
+ghost use Rattle.bit_column.specs.Bits.{bits_of, pieces};
 ghost use Rattle.bit_column.specs.Column.{ids_between};
 ghost use Rattle.bit_column.specs.Reading.{ReadsRange};
 ghost use Rattle.bit_column.specs.Sections.{section, AppendsRange, Readable};
@@ -9,8 +10,9 @@ ghost use Rattle.bit_column.specs.declared.fault.ColumnFault.TheVariants.{BadId,
 use crate::file_part::FilePart;
 use crate::narrow_ids::NarrowIds;
 use crate::part::read_few;
-use crate::range_bytes::read_bytes;
+use crate::range_bytes::{read_bytes, read_short_range};
 use crate::reading::{append_ids, id_of};
+use crate::words::{number_in, word_at};
 use crate::{ColumnFault, IdRange, Width};
 use outside::{Place, Seq, Shelf};
 use std::alloc::Global;
@@ -138,6 +140,9 @@ fn append_some<S: Shelf>(
     }
     let bit = first_bit(range);
     let number = (range.to - range.from) as usize;
+    if bit + number * range.width.bits as usize <= 64 {
+        return append_short(alloc, shelf, place, range, ids);
+    }
     match read_bytes(alloc, shelf, place, range, buffer) {
         Ok(()) => append_ids(
             buffer.as_slice(),
@@ -149,6 +154,64 @@ fn append_some<S: Shelf>(
         ),
         Err(fault) => Err(fault),
     }
+}
+
+// Appends the ids of a range that has some, in at most eight bytes. It takes no memory but for the
+// ids.
+#[inline(always)]
+fn append_short<S: Shelf>(
+    alloc: Global,
+    shelf: &mut S,
+    place: &Place,
+    range: IdRange,
+    ids: &mut Vec<u32>,
+) -> Result<(), ColumnFault>
+    requires some { range.from < range.to }
+    requires few { range.from * range.width.bits % 8 + (range.to - range.from) * range.width.bits
+        ≤ 64 }
+    ensures ids { OnOk result (AppendsRange (S.held shelf.old) place.now range.width.bits
+        range.count range.from range.to ids.old.items ids.new.items) }
+    ensures reads { ReadsRange result place.now range.width.bits range.count range.from range.to
+        (seen S.Shelf shelf.old) (seen S.Shelf shelf.new) }
+{
+    let mut bytes = [0u8; 8];
+    match read_short_range(alloc, shelf, place, range, &mut bytes) {
+        Ok(()) => {
+            let bit = first_bit(range) as u32;
+            push_few(&bytes, bit, range.width, range.count, range.to - range.from, ids)
+        }
+        Err(fault) => Err(fault),
+    }
+}
+
+// Appends so many ids from a bit of eight bytes on, each of which is to be below the count.
+#[inline(always)]
+fn push_few(
+    bytes: &[u8; 8],
+    bit: u32,
+    width: Width,
+    count: u32,
+    number: u32,
+    ids: &mut Vec<u32>,
+) -> Result<(), ColumnFault>
+    requires { bit + number * width.bits ≤ 64 }
+    ensures ids { OnOk result (ids.new.items
+        ≡ ids.old.items ++ pieces width.bits bit number (bits_of 8 bytes.now)) }
+    ensures below { OnOk result
+        (All (λ id. id < count) (pieces width.bits bit number (bits_of 8 bytes.now))) }
+    ensures bad { result ≡ Err BadId →
+        ¬ All (λ id. id < count) (pieces width.bits bit number (bits_of 8 bytes.now)) }
+    ensures read { ¬ (result ≡ Err ReadFault) }
+{
+    let word = word_at(bytes, 0);
+    for i in 0..number {
+        let id = number_in(word, bit + i * width.bits, width);
+        match push_id(id, count, ids) {
+            Ok(()) => {}
+            Err(fault) => return Err(fault),
+        }
+    }
+    Ok(())
 }
 
 /// Appends the ids of a range of a section, in two bytes each. It reads their bytes and no others,
