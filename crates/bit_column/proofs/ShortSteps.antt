@@ -18,15 +18,13 @@ few-long width from to bytes order few long =
     omega (arith, length-take ((to * width + 7) / 8 - from * width / 8) bytes, few-bytes width from to order few, long)
 
 -- at the front of some, they have its ids
-pub few-read : (width from to : ℕ) (bytes : List ℕ) → from ≤ to
-    → pieces width (from * width % 8) (to - from) (bits_of 8 (take ((to * width + 7) / 8 - from * width / 8) bytes))
-    ≡ pieces width (from * width % 8) (to - from) (bits_of 8 bytes)
-few-read width from to bytes order =
-    let bit = from * width % 8 in
+pub few-read : (width from to bit : ℕ) (bytes : List ℕ) → from ≤ to → bit ≡ from * width % 8
+    → pieces width bit (to - from) (bits_of 8 bytes) ≡ pieces width bit (to - from) (bits_of 8 (take ((to * width + 7) / 8 - from * width / 8) bytes))
+few-read width from to bit bytes order is =
     let size = (to * width + 7) / 8 - from * width / 8 in
     let start : bit ≡ bit - 0 * 8 = omega arith in
-    ap (λ b. pieces width b (to - from) (bits_of 8 (take size bytes))) start
-    ∙ pieces-bytes width bit 0 size (to - from) bytes (omega arith) (omega (arith, range-held width from to size order refl))
+    sym (ap (λ b. pieces width b (to - from) (bits_of 8 (take size bytes))) start
+    ∙ pieces-bytes width bit 0 size (to - from) bytes (omega arith) (omega (arith, is, range-held width from to size order refl)))
 
 -- ---- ids of a word that are appended one by one
 
