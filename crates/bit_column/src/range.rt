@@ -178,7 +178,14 @@ fn append_short<S: Shelf>(
     match read_short_range(alloc, shelf, place, range, &mut bytes) {
         Ok(()) => {
             let bit = first_bit(range) as u32;
-            push_few(&bytes, bit, range.width, range.count, range.to - range.from, ids)
+            push_few(
+                &bytes,
+                bit,
+                range.width,
+                range.count,
+                range.to - range.from,
+                ids,
+            )
         }
         Err(fault) => Err(fault),
     }

@@ -57,7 +57,7 @@ pub fn read_short_range<S: Shelf>(
         ≤ 64 }
     ensures { ReadsBytes result place.now range.width.bits range.from range.to
         (take (bytes_for (range.to * range.width.bits) - first_byte range.width.bits range.from)
-            bytes.new)
+        bytes.new)
         (seen S.Shelf shelf.old) (seen S.Shelf shelf.new) }
 {
     let end = (range.to as u64 * range.width.bits as u64 + 7) / 8;
