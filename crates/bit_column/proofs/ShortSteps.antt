@@ -1,5 +1,5 @@
 -- A range of ids in eight bytes.
-use Rattle.std.proofs.Common.{◌≡◌, ◌≤◌, ◌<◌, ℕ, ◌+◌, ◌-◌, ◌*◌, ◌/◌, ◌%◌, List, [], ◌∷◌, ◌++◌, All, length, take, min, refl, sym, ap, ◌∙◌, subst, arith, append_assoc, length-take}
+use Rattle.std.proofs.Common.{◌≡◌, ◌≤◌, ◌<◌, ℕ, ◌+◌, ◌-◌, ◌*◌, ◌/◌, ◌%◌, List, [], ◌∷◌, ◌++◌, All, length, take, refl, sym, ap, ◌∙◌, subst, arith, append_assoc, length-take}
 use Rattle.std.proofs.lemmas.List.Elements.{All-push}
 use Rattle.std.proofs.lemmas.Nat.{mul-le}
 use Rattle.bit_column.specs.Bits.{bits, bits_of, field, pieces}
@@ -10,6 +10,13 @@ use Rattle.bit_column.proofs.Ranges.{pieces-bytes, range-held, span}
 -- its bytes are at most eight
 pub few-bytes : (width from to : ℕ) → from ≤ to → from * width % 8 + (to - from) * width ≤ 64 → (to * width + 7) / 8 ≤ from * width / 8 + 8
 few-bytes width from to order few = omega (arith, span width from to order, few)
+
+-- one id is in eight bytes
+pub one-few : (width from to : ℕ) → to - from ≡ 1 → width ≤ 32 → from * width % 8 + (to - from) * width ≤ 64
+one-few width from to one most =
+    let alone : 1 * width ≡ width = grind arith in
+    let all : (to - from) * width ≡ 1 * width = ap (λ n. n * width) one in
+    omega (arith, alone, all, most)
 
 -- so many of eight bytes
 pub few-long : (width from to : ℕ) (bytes : List ℕ) → from ≤ to → from * width % 8 + (to - from) * width ≤ 64 → length bytes ≡ 8

@@ -7,9 +7,7 @@ ghost use Rattle.bit_column.specs.Reading.{ReadsRange};
 ghost use Rattle.bit_column.specs.Sections.{section, AppendsRange, Readable};
 ghost use Rattle.bit_column.specs.declared.fault.ColumnFault.TheVariants.{BadId, ReadFault};
 
-use crate::file_part::FilePart;
 use crate::narrow_ids::NarrowIds;
-use crate::part::read_few;
 use crate::range_bytes::{read_bytes, read_short_range};
 use crate::reading::{append_ids, id_of};
 use crate::words::{number_in, word_at};
@@ -80,23 +78,13 @@ pub fn append_range<S: Shelf>(
         };
         return append_some(alloc, shelf, place, some, buffer, ids);
     }
-    let bit = range.from as u64 * range.width.bits as u64;
+    let first = range.from as u64 * range.width.bits as u64 / 8;
     let end = (range.to as u64 * range.width.bits as u64 + 7) / 8;
-    if end > place.length {
-        return Err(ColumnFault::BadId);
-    }
-    let name = place.file.as_str();
-    let part = FilePart {
-        name,
-        offset: place.offset,
-        from: bit / 8,
-        to: end,
-    };
     let mut bytes = [0u8; 8];
-    match read_few(alloc, shelf, part, &mut bytes) {
+    match read_short_range(alloc, shelf, place, range, &mut bytes) {
         Ok(()) => {
-            let size = (end - bit / 8) as usize;
-            let id = id_of(&bytes, size, (bit % 8) as usize, range.width);
+            let size = (end - first) as usize;
+            let id = id_of(&bytes, size, first_bit(range), range.width);
             push_id(id, range.count, ids)
         }
         Err(fault) => Err(fault),
