@@ -23,21 +23,9 @@ module _ (owner : ℕ) (old new : Pool) (same : slots_of new owner ≡ slots_of 
     out = ap (λ (m : Slots). finite.contains_key m slot.number) (slots_as slot s.owned) ∙ s.out;
   }
 
-  pub slots_still : (slots : List Place) → AllByRecursion (IsSlotOf old owner) slots → AllByRecursion (IsSlotOf new owner) slots
-  slots_still [] each = tt
-  slots_still (slot ∷ slots) each = (slot_still slot each.0, slots_still slots each.1)
-
-  pub states_still : (slots : List Place) → AllByRecursion (IsSlotOf old owner) slots → map (states_at new) slots ≡ map (states_at old) slots
-  states_still [] each = refl
-  states_still (slot ∷ slots) each = λ i. states_as slot each.0.owned i ∷ states_still slots each.1 i
-
   pub each_still : (es : List (List Value × Place)) → AllByRecursion (λ e. IsSlotOf old owner e.1) es → AllByRecursion (λ e. IsSlotOf new owner e.1) es
   each_still [] each = tt
   each_still (e ∷ es) each = (slot_still e.1 each.0, each_still es each.1)
-
-  pub entries_still : (es : List (List Value × Place)) → AllByRecursion (λ e. IsSlotOf old owner e.1) es → map (λ (e : List Value × Place). states_at new e.1) es ≡ map (λ (e : List Value × Place). states_at old e.1) es
-  entries_still [] each = refl
-  entries_still (e ∷ es) each = λ i. states_as e.1 each.0.owned i ∷ entries_still es each.1 i
 
 -- ---- a table
 
@@ -72,14 +60,6 @@ module _ (t : PooledTable) (old new : Pool) (quotas : new.quotas ≡ old.quotas)
 
 -- ---- what is kept aside
 
-pub aside_both : (one two : ℕ) (old mid new : Pool) → KeepsAside one two old mid → KeepsAside one two mid new → KeepsAside one two old new
-aside_both one two old mid new a b = record {
-  quotas = b.quotas ∙ a.quotas;
-  width = b.width ∙ a.width;
-  kinds = λ other ne no. b.kinds other ne no ∙ a.kinds other ne no;
-  slots = λ other ne no. b.slots other ne no ∙ a.slots other ne no;
-}
-
 -- but for one owner, and so but for both
 pub aside_first : (one two : ℕ) (old new : Pool) → KeepsOthers one old new → KeepsAside one two old new
 aside_first one two old new k = record {
@@ -87,14 +67,6 @@ aside_first one two old new k = record {
   width = k.width;
   kinds = λ other ne no. ap (λ kss. get_or kss other []) k.kinds;
   slots = λ other ne no. k.others other ne;
-}
-
-pub aside_second : (one two : ℕ) (old new : Pool) → KeepsOthers two old new → KeepsAside one two old new
-aside_second one two old new k = record {
-  quotas = k.quotas;
-  width = k.width;
-  kinds = λ other ne no. ap (λ kss. get_or kss other []) k.kinds;
-  slots = λ other ne no. k.others other no;
 }
 
 pub aside_of : (one two : ℕ) (old new : Pool) → KeepsAside two two old new → KeepsAside one two old new

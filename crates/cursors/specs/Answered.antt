@@ -8,13 +8,11 @@ use Rattle.state_pool.specs.Pool.{Pool}
 use Rattle.group_table.specs.Groups.{groups_of}
 use Rattle.group_table.specs.Kept.{groups_in}
 use Rattle.group_table.specs.Pooled.{in_pool}
-use Rattle.group_table.specs.Saved.{HasSaved, IsHeldBeside, SavedSlots}
 use Rattle.group_table.specs.Shape.{shape_of}
 use Rattle.scan_engine.specs.Scanned.{selected}
 use Rattle.segment_head.specs.declared.stored.Stored.{Stored}
 use Rattle.cursor_serve.specs.Machine.{most_cursor_groups}
 use Rattle.cursors.specs.Added.{OverRows, stored_in}
-use Rattle.cursors.specs.Kept.{keeper}
 use Rattle.cursors.specs.declared.cursor.Cursor.{Cursor}
 
 -- the segments that a cursor answers next, up to one
@@ -22,12 +20,6 @@ abbrev pub next_stored : Cursor → ℕ → List Stored
 next_stored cursor to = stored_in
     (take (to - cursor.answered) (drop cursor.answered cursor.segments))
     (take (to - cursor.answered) (drop cursor.answered cursor.files.items))
-
--- the states of a cursor's groups in one pool are kept in slots of another, beside them
-pub record IsSavedBy (cursor : Cursor) (old new : Pool) (saved : SavedSlots) : Type 0 where
-  pub owner : saved.owner ≡ keeper
-  pub beside : IsHeldBeside cursor.groups new saved
-  pub states : HasSaved cursor.groups old new saved
 
 -- a cursor has answered so many segments, and nothing else of it but its groups has changed
 pub record IsMoved (to : ℕ) (old new : Cursor) : Type 0 where

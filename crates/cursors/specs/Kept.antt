@@ -16,13 +16,12 @@ use Rattle.cursors.specs.declared.cursor.Cursor.{Cursor}
 
 -- ---- the pool
 
--- the owner of the states of the cursor that is being answered, as they were; those below are for
--- cursors
+-- the owner that is for no cursor and takes no slot; those below are for cursors
 abbrev pub keeper : ℕ
 keeper = 16
 
--- an owner for each cursor and one for states as they were, each with the most groups of a cursor,
--- of as many kinds as a query may have aggregates
+-- an owner for each cursor and one more, each with the most groups of a cursor, of as many kinds as
+-- a query may have aggregates
 pub record IsPool (pool : Pool) : Type 0 where
   pub owners : length pool.quotas ≡ 17
   pub quotas : (owner : ℕ) → owner < 17 → quota_of pool owner ≡ most_cursor_groups

@@ -1,5 +1,5 @@
 //! A cursor answers segments: their rows are added to its groups, whose states are saved before.
-ghost use Rattle.std.specs.Prelude.{◌≡◌, ◌≢◌, ◌≤◌, is_some, true, IfOk, OnOk, OnErr, Err, length, map};
+ghost use Rattle.std.specs.Prelude.{◌≡◌, ◌≢◌, ◌≤◌, is_some, true, IfOk, OnOk, OnErr, Err, length};
 ghost use Rattle.std.specs.List.{AllByRecursion};
 ghost use Rattle.outside.specs.Seen.{seen};
 ghost use Rattle.table_schema.specs.ValidTable.{IsValidTable};
@@ -9,13 +9,13 @@ ghost use Rattle.state_pool.specs.Pool.{held};
 ghost use Rattle.query_executor.specs.Passes.{PassReads};
 ghost use Rattle.query_executor.specs.declared.fault.ExecutorFault.TheVariants.{Sql};
 ghost use Rattle.cursors.specs.Added.{stored_in};
-ghost use Rattle.cursors.specs.Answered.{AnswersRows, IsMoved, IsOverfull, IsSavedBy, next_stored};
+ghost use Rattle.cursors.specs.Answered.{AnswersRows, IsMoved, IsOverfull, next_stored};
 ghost use Rattle.cursors.specs.Kept.{IsCursorIn, IsOver, IsPool, KeepsAside, keeper};
 
 use crate::adding::add_all;
 use crate::cursor::Cursor;
-use crate::places::KEEPER;
-use group_table::{SavedGroups, SlotPool, kinds_in};
+use agg_laws::AggState;
+use group_table::SlotPool;
 use outside::{Name, NoMemory, Shelf};
 use query_executor::ExecutorFault;
 use segment_head::Stored;
@@ -26,15 +26,15 @@ use std::alloc::Global;
 use table_schema::Table;
 
 /// A cursor answers its segments up to one, where its groups are then no more than it may have.
-/// Else it is as it was.
+/// Else it is as it was. The states of its groups as they were are put in a list.
 pub fn answer_to<S: Shelf>(
-    alloc: Global,
+    rooms: &mut IdRooms,
     shelf: &mut S,
     table: &Table,
     pool: &mut SlotPool,
     cursor: &mut Cursor,
     to: u32,
-    rooms: &mut IdRooms,
+    states: &mut Vec<AggState>,
 ) -> Result<(), ExecutorFault>
     requires pool { IsPool pool.old × (held pool.old keeper ≡ 0) }
     requires cursor { IsCursorIn pool.old cursor.old }
@@ -54,11 +54,13 @@ pub fn answer_to<S: Shelf>(
     ensures closed { held pool.new keeper ≡ 0 }
 {
     docs_bound_law();
+    let alloc = rooms.alloc();
     let from = cursor.answered as usize;
     let names = &cursor.segments.as_slice()[from..to as usize];
     let files = &cursor.files.as_slice()[from..to as usize];
     let stored = stored_of(alloc, names, files)?;
-    let saved = saved_of(alloc, cursor, pool)?;
+    let count = cursor.groups.groups();
+    cursor.groups.save(pool, states)?;
     let done = add_all(
         rooms,
         shelf,
@@ -70,29 +72,14 @@ pub fn answer_to<S: Shelf>(
     );
     match done {
         Ok(()) => {
-            saved.close(pool);
             cursor.answered = to;
             Ok(())
         }
         Err(fault) => {
-            cursor.groups.restore(pool, saved);
+            cursor.groups.restore(pool, count, states.as_slice());
             Err(fault)
         }
     }
-}
-
-// The groups of a cursor as they are.
-fn saved_of(alloc: Global, cursor: &Cursor, pool: &mut SlotPool) -> Result<SavedGroups, NoMemory>
-    requires pool { IsPool pool.old × (held pool.old keeper ≡ 0) }
-    requires cursor { IsCursorIn pool.old cursor.now }
-    requires few { length cursor.now.query.aggs ≤ 16 }
-    ensures saved { IfOk result (IsSavedBy cursor.now pool.old pool.new) }
-    ensures keeps { KeepsAside keeper keeper pool.old pool.new }
-    ensures closed { OnErr result (held pool.new keeper ≡ 0) }
-{
-    let kinds = kinds_in(alloc, cursor.query.aggs.as_slice())?;
-    pool.set_kinds(KEEPER, kinds);
-    cursor.groups.save(alloc, pool, KEEPER)
 }
 
 // The segments of these names where they stand.

@@ -18,8 +18,7 @@ use table_schema::BoundQuery;
 /// The most aggregates of a query.
 const MOST_AGGS: usize = 16;
 
-/// A pool with an owner for each cursor and one for the states of the cursor that is
-/// being answered, as they were.
+/// A pool with an owner for each cursor, and one more, which takes no slot.
 pub fn cursor_pool(alloc: Global) -> Result<SlotPool, NoMemory>
     ensures { IfOk result IsEmptyPool }
 {

@@ -12,9 +12,6 @@ pub const MOST_CURSORS: usize = 16;
 /// The most groups of a cursor.
 pub const MOST_CURSOR_GROUPS: u32 = 10_000;
 
-/// The owner of the states of the cursor that is being answered, as they were.
-pub(crate) const KEEPER: u16 = 16;
-
 /// The place of the cursor of a name, if there is one.
 pub fn place_of(cursors: &[Cursor], name: &str) -> Option<usize>
     ensures { result ≡ place_under name.now cursors.now }

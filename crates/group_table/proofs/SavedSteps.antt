@@ -1,16 +1,21 @@
--- The states of groups in slots of another owner: copied there one by one, and put back from the last one on.
-use Rattle.std.proofs.Common.{◌≡◌, ◌≢◌, ◌∙◌, ℕ, zero, suc, ◌+◌, ◌-◌, ◌<◌, ◌≤◌, true, false, cond, nat_eq, List, [], ◌∷◌, ◌++◌, length, map, get_or, take, drop, slice_get, Option, Some, None, refl, sym, ap, subst, arith, is_some, unwrap_or, length-append, append-nil, append_assoc}
-use Rattle.std.proofs.lemmas.List.{map-append, length-map, take_all, take_more}
+-- The states of groups copied one after the other into a list, and put back from there.
+use Rattle.std.proofs.Common.{◌≡◌, ◌≢◌, ◌∙◌, ℕ, zero, suc, ◌+◌, ◌-◌, ◌*◌, ◌/◌, ◌<◌, ◌≤◌, true, false, cond, nat_eq, List, [], ◌∷◌, ◌++◌, length, map, get_or, take, drop, slice_get, Option, Some, None, refl, sym, ap, subst, arith, is_some, unwrap_or, length-append, length-drop, append-nil, append_assoc}
+use Rattle.std.proofs.lemmas.List.{map-append, length-map, length-take-le, take_all, flat_map_more}
+use Rattle.std.proofs.lemmas.List.Folds.{flat_map-map}
+use Rattle.std.proofs.lemmas.Nat.{mul-le}
+use Rattle.std.proofs.Math.Nat.{mul-div_cancel_left, zero-mul}
+use Rattle.std.proofs.Math.Seq.{take-add}
+use native.Mathlib.Nat.{suc-mul}
 use Rattle.std.specs.FinMap as finite
 use Rattle.std.specs.Cmp.{nat_cmp_total}
-use Rattle.std.specs.List.{AllByRecursion, IsDistinct}
+use Rattle.std.specs.List.{AllByRecursion, IsDistinct, flat_map}
 use Rattle.values.specs.declared.value.Value.{Value}
 use Rattle.agg_laws.specs.declared.states.AggState.{AggState}
-use Rattle.state_pool.specs.Pool.{Pool, Place, Slots, TakesWith, GivesBack, Writes, IsOut, held, kinds_at, quota_of, slots_of, states_at}
+use Rattle.state_pool.specs.Pool.{Pool, Place, Slots, GivesBack, Writes, IsOut, held, kinds_at, slots_of, states_at}
 use Rattle.state_pool.proofs.SlotLemmas.{gone_there, same_slots, none_some}
 use Rattle.group_table.specs.Pooled.{PooledTable, IsSlotOf, HoldsAll, KeepsOthers, Extends, place_at, with_slots}
-use Rattle.group_table.specs.Saved.{SavedSlots, IsHeldBeside, HasSaved, KeepsBut}
-use Rattle.group_table.proofs.NewKeys.{drop_next, drop_all, place_get}
+use Rattle.group_table.specs.Saved.{HasSaved}
+use Rattle.group_table.proofs.NewKeys.{place_get}
 use Rattle.group_table.proofs.PooledSteps.{Entries, slots_in, same_numbers}
 use Rattle.group_table.proofs.SlotFrames as frames
 
@@ -35,44 +40,13 @@ table_held t pool h = record {
   all = length-map t.slots (λ e. e.1) ∙ h.all;
 }
 
-pub none_held : (pool : Pool) (owner : ℕ) → held pool owner ≡ 0 → AreHeld pool owner []
-unfolding IsDistinct
-none_held pool owner none = record { each = tt; apart = tt; all = sym none }
-
 each_place : (P Q : Place → Type 0) → ((s : Place) → P s → Q s) → (ss : List Place) → AllByRecursion P ss → AllByRecursion Q ss
 each_place P Q f [] h = tt
 each_place P Q f (s ∷ ss) h = (f s h.0, each_place P Q f ss h.1)
 
-push_place : (P : Place → Type 0) (ss : List Place) (s : Place) → AllByRecursion P ss → P s → AllByRecursion P (ss ++ s ∷ [])
-push_place P [] s h one = (one, tt)
-push_place P (x ∷ ss) s h one = (h.0, push_place P ss s h.1 one)
-
 init_place : (P : Place → Type 0) (ss : List Place) (s : Place) → AllByRecursion P (ss ++ s ∷ []) → AllByRecursion P ss × P s
 init_place P [] s h = (tt, h.0)
 init_place P (x ∷ ss) s h = let rest = init_place P ss s h.1 in ((h.0, rest.0), rest.1)
-
--- ---- an owner whose slots have not changed
-
-module _ (owner : ℕ) (old new : Pool) (same : slots_of new owner ≡ slots_of old owner) where
-  its : (s : Place) → IsSlotOf old owner s → slots_of new s.owner ≡ slots_of old s.owner
-  its s own = subst (λ o. slots_of new o ≡ slots_of old o) (sym own.owned) same
-
-  pub slot_still : (s : Place) → IsSlotOf old owner s → IsSlotOf new owner s
-  slot_still s own = record { owned = own.owned; out = ap (λ (m : Slots). finite.contains_key m s.number) (its s own) ∙ own.out }
-
-  pub held_still : (ss : List Place) → AreHeld old owner ss → AreHeld new owner ss
-  held_still ss h = record {
-    each = each_place (IsSlotOf old owner) (IsSlotOf new owner) slot_still ss h.each;
-    apart = h.apart;
-    all = h.all ∙ ap finite.len (sym same);
-  }
-
-  pub state_still : (s : Place) → IsSlotOf old owner s → states_at new s ≡ states_at old s
-  state_still s own = ap (λ (m : Slots). unwrap_or (finite.get m s.number) []) (its s own)
-
-  pub states_still : (ss : List Place) → AllByRecursion (IsSlotOf old owner) ss → map (states_at new) ss ≡ map (states_at old) ss
-  states_still [] each = refl
-  states_still (s ∷ ss) each = λ i. state_still s each.0 i ∷ states_still ss each.1 i
 
 -- ---- a slot with other states
 
@@ -89,35 +63,6 @@ module _ (slot : Place) (w : List AggState) (old new : Pool) (writes : Writes sl
   written_others owner is [] each differ = refl
   written_others owner is (s ∷ ss) each differ = λ i. frames.states_there slot w old new writes s (each.0.owned ∙ sym is) (frames.apart_from slot.number s.number differ.0) i
       ∷ written_others owner is ss each.1 differ.1 i
-
--- ---- a slot more
-
-module _ (owner : ℕ) (w : List AggState) (slot : Place) (old new : Pool) (takes : TakesWith owner w slot old new) (ss : List Place) (h : AreHeld old owner ss) where
-  taken_writes : Writes slot w old new
-  taken_writes = record {
-    quotas = takes.changes.quotas;
-    kinds = takes.changes.kinds;
-    width = takes.changes.width;
-    own = subst (λ o. slots_of new o ≡ finite.insert (slots_of old o) slot.number w) (sym takes.owner_is) takes.changes.own;
-    others = λ other ne. takes.changes.others other (λ is. ne (is ∙ sym takes.owner_is));
-  }
-
-  differ : AllByRecursion (λ m. nat_eq slot.number m ≡ false) (numbers ss)
-  differ = frames.taken_apart owner old slot.number (takes.new_number owner) ss h.each
-
-  pub taken_held : AreHeld new owner (ss ++ slot ∷ [])
-  taken_held = record {
-    each = push_place (IsSlotOf new owner) ss slot
-        (each_place (IsSlotOf old owner) (IsSlotOf new owner) (λ s. frames.own_still slot w old new taken_writes owner s takes.owner_is) ss h.each)
-        (frames.own_here slot w old new taken_writes owner takes.owner_is);
-    apart = subst (IsDistinct nat_eq) (sym (map-append (λ (s : Place). s.number) ss (slot ∷ []))) (frames.push_apart (numbers ss) slot.number differ h.apart);
-    all = length-append ss (slot ∷ []) ∙ ap (λ n. n + 1) h.all
-        ∙ sym (frames.held_more slot w old new taken_writes owner takes.owner_is (takes.new_number slot.owner));
-  }
-
-  pub taken_states : map (states_at new) (ss ++ slot ∷ []) ≡ map (states_at old) ss ++ w ∷ []
-  taken_states = map-append (states_at new) ss (slot ∷ [])
-      ∙ (λ i. written_others slot w old new taken_writes owner takes.owner_is ss h.each differ i ++ frames.states_here slot w old new taken_writes i ∷ [])
 
 -- ---- the last slot given back
 
@@ -143,20 +88,6 @@ module _ (owner : ℕ) (ss : List Place) (slot : Place) (old : Pool) (h : AreHel
       all = omega (arith, h.all, length-append ss (slot ∷ []), frames.held_less slot old new gives owner parts.1.owned parts.1.out);
     }
 
-    there : (s : Place) → s.owner ≡ slot.owner → s.number ≢ slot.number → states_at new s ≡ states_at old s
-    there s e ne = ap (λ o. unwrap_or (finite.get (slots_of new o) s.number) []) e
-        ∙ ap (λ (m : Slots). unwrap_or (finite.get m s.number) []) gives.own
-        ∙ ap (λ (o : Option (List AggState)). unwrap_or o []) (gone_there (slots_of old slot.owner) slot.number s.number ne)
-        ∙ sym (ap (λ o. unwrap_or (finite.get (slots_of old o) s.number) []) e)
-
-    states_left : (ss : List Place) → AllByRecursion (IsSlotOf old owner) ss → AllByRecursion (λ m. nat_eq slot.number m ≡ false) (numbers ss)
-        → map (states_at new) ss ≡ map (states_at old) ss
-    states_left [] each away = refl
-    states_left (s ∷ ss) each away = λ i. there s (each.0.owned ∙ sym parts.1.owned) (frames.apart_from slot.number s.number away.0) i ∷ states_left ss each.1 away.1 i
-
-    pub given_states : map (states_at new) ss ≡ map (states_at old) ss
-    given_states = states_left ss parts.0 apart_parts.1
-
     pub given_keeps : KeepsOthers owner old new
     given_keeps = subst (λ o. KeepsOthers o old new) parts.1.owned (frames.keeps_changed slot.owner _ old new gives)
 
@@ -167,84 +98,47 @@ place_slot P [] at h lt = absurd (omega (arith, lt))
 place_slot P (e ∷ es) zero h lt = h.0
 place_slot P (e ∷ es) (suc at) h lt = place_slot P es at h.1 (omega (arith, lt))
 
-pub states_of : (pool : Pool) (es : List (List Value × Place)) → map (states_at pool) (places es) ≡ map (λ e. states_at pool e.1) es
-states_of pool [] = refl
-states_of pool (e ∷ es) = ap (λ l. states_at pool e.1 ∷ l) (states_of pool es)
+push_entry : (P : List Value × Place → Type 0) (es : Entries) (e : List Value × Place) → AllByRecursion P es → P e → AllByRecursion P (es ++ e ∷ [])
+push_entry P [] e h one = (one, tt)
+push_entry P (x ∷ es) e h one = (h.0, push_entry P es e h.1 one)
 
--- the first groups are saved
-pub record Saving (t : PooledTable) (before : Pool) (keeper : ℕ) (pool : Pool) (slots : List Place) (at : ℕ) : Type 0 where
-  pub held_are : AreHeld pool keeper slots
-  pub keeps : KeepsOthers keeper before pool
-  pub states : map (states_at pool) slots ≡ take at (map (λ e. states_at before e.1) t.slots)
-  pub count : length slots ≡ at
+item_at : {X : Type 0} (es : List X) (at : ℕ) (e : X) → Some e ≡ slice_get es at → take (suc at) es ≡ take at es ++ e ∷ []
+item_at [] at e is = absurd (none_some (sym is))
+item_at (x ∷ es) zero e is = let same : e ≡ x = cc in ap (λ e. e ∷ []) (sym same)
+item_at (x ∷ es) (suc at) e is = ap (λ l. x ∷ l) (item_at es at e is)
 
-module _ (t : PooledTable) (before : Pool) (holds : HoldsAll t before) (keeper : ℕ) (apart : keeper ≢ t.owner) where
-  pub saving_none : held before keeper ≡ 0 → Saving t before keeper before [] 0
-  saving_none none = record { held_are = none_held before keeper none; keeps = frames.keeps_same keeper before; states = refl; count = refl }
+entry_at : {X : Type 0} (es : List X) (at : ℕ) (e : X) → Some e ≡ slice_get es at → take (at + 1) es ≡ take at es ++ e ∷ []
+entry_at es at e is = ap (λ n. take n es) (let on : at + 1 ≡ suc at = omega arith in on) ∙ item_at es at e is
 
-  module _ (pool : Pool) (slots : List Place) (at : ℕ) (saving : Saving t before keeper pool slots at) where
-    table_there : slots_of pool t.owner ≡ slots_of before t.owner
-    table_there = saving.keeps.others t.owner (λ is. apart (sym is))
+-- the states of the first groups are in a list
+pub record Saving (t : PooledTable) (pool : Pool) (items : List AggState) (at : ℕ) : Type 0 where
+  pub each : AllByRecursion (λ entry. length (states_at pool entry.1) ≡ length (kinds_at pool t.owner)) (take at t.slots)
+  pub states_are : items ≡ flat_map (λ entry. states_at pool entry.1) (take at t.slots)
 
-    module _ (key : List Value) (own : Place) (is : Some (key, own) ≡ slice_get t.slots at) (within : at < length t.slots) where
-      own_before : IsSlotOf before t.owner own
-      own_before = subst (IsSlotOf before t.owner) (sym (place_get t.slots at key own is)) (place_slot (IsSlotOf before t.owner) t.slots at holds.each within)
+pub saving_none : (t : PooledTable) (pool : Pool) (items : List AggState) → items ≡ [] → Saving t pool items 0
+saving_none t pool items none = record { each = tt; states_are = none }
 
-      pub own_slot : IsSlotOf pool t.owner own
-      own_slot = slot_still t.owner before pool table_there own own_before
+module _ (t : PooledTable) (pool : Pool) (holds : HoldsAll t pool) (items : List AggState) (at : ℕ) (saving : Saving t pool items at) where
+  module _ (key : List Value) (own : Place) (is : Some (key, own) ≡ slice_get t.slots at) (within : at < length t.slots) where
+    pub own_slot : IsSlotOf pool t.owner own
+    own_slot = subst (IsSlotOf pool t.owner) (sym (place_get t.slots at key own is)) (place_slot (IsSlotOf pool t.owner) t.slots at holds.each within)
 
-      pub own_apart : own.owner ≢ keeper
-      own_apart same = apart (sym same ∙ own_before.owned)
-
-      pub own_kinds : kinds_at before keeper ≡ kinds_at before t.owner → kinds_at pool keeper ≡ kinds_at pool own.owner
-      own_kinds same = ap (λ kss. get_or kss keeper []) saving.keeps.kinds ∙ same ∙ sym (ap (λ kss. get_or kss t.owner []) saving.keeps.kinds)
-          ∙ ap (kinds_at pool) (sym own_before.owned)
-
-      -- there is a slot more for it
-      pub has_free : length t.slots ≤ t.most → t.most ≤ quota_of before keeper → held pool keeper ≡ quota_of pool keeper → ⊥
-      has_free few room full = omega (arith, few, room, full, within, saving.count, saving.held_are.all, ap (λ qs. get_or qs keeper 0) saving.keeps.quotas)
-
-      state_is : states_at pool own ≡ states_at before own
-      state_is = state_still t.owner before pool table_there own own_before
-
-      at_saved : get_or (map (λ e. states_at before e.1) t.slots) at [] ≡ states_at before own
-      at_saved = by t.slots at is
-        where
-          by : (es : Entries) (at : ℕ) → Some (key, own) ≡ slice_get es at → get_or (map (λ e. states_at before e.1) es) at [] ≡ states_at before own
-          by [] at is = absurd (none_some (sym is))
-          by (e ∷ es) zero is = let same : (key, own) ≡ e = cc in ap (λ (e : List Value × Place). states_at before e.1) (sym same)
-          by (e ∷ es) (suc at) is = by es at is
-
-      pub saving_next : (slot : Place) (new : Pool) → TakesWith keeper (states_at pool own) slot pool new → Saving t before keeper new (slots ++ slot ∷ []) (at + 1)
-      saving_next slot new takes = record {
-        held_are = taken_held keeper (states_at pool own) slot pool new takes slots saving.held_are;
-        keeps = frames.keeps_both keeper before pool new saving.keeps (frames.keeps_changed keeper _ pool new takes.changes);
-        states = taken_states keeper (states_at pool own) slot pool new takes slots saving.held_are
-            ∙ (λ i. saving.states i ++ (state_is ∙ sym at_saved) i ∷ [])
-            ∙ sym (take_more (map (λ e. states_at before e.1) t.slots) at [] (omega (arith, within, length-map t.slots (λ (e : List Value × Place). states_at before e.1))));
-        count = length-append slots (slot ∷ []) ∙ ap (λ n. n + 1) saving.count;
-      }
-
-    pub saving_all : length t.slots ≤ at → HasSaved t before pool (record { owner = keeper; slots = slots })
-    saving_all all = record {
-      table = holds;
-      states = saving.states ∙ take_all at (map (λ e. states_at before e.1) t.slots) (omega (arith, all, length-map t.slots (λ (e : List Value × Place). states_at before e.1)));
+    pub saving_next : (more : List AggState) → more ≡ items ++ states_at pool own → length (states_at pool own) ≡ length (kinds_at pool own.owner) → Saving t pool more (at + 1)
+    saving_next more more_is long = record {
+      each = subst (AllByRecursion (λ entry. length (states_at pool entry.1) ≡ length (kinds_at pool t.owner))) (sym (entry_at t.slots at (key, own) is))
+          (push_entry (λ entry. length (states_at pool entry.1) ≡ length (kinds_at pool t.owner)) (take at t.slots) (key, own) saving.each
+          (long ∙ ap (λ o. length (kinds_at pool o)) own_slot.owned));
+      states_are = more_is ∙ (λ i. saving.states_are i ++ states_at pool own)
+          ∙ flat_map_more (λ (entry : List Value × Place). states_at pool entry.1) [] (take at t.slots) (key, own)
+          ∙ ap (flat_map (λ (entry : List Value × Place). states_at pool entry.1)) (sym (entry_at t.slots at (key, own) is));
     }
 
-    pub saving_beside : keeper < length before.quotas → kinds_at before keeper ≡ kinds_at before t.owner → IsHeldBeside t pool (record { owner = keeper; slots = slots })
-    saving_beside known same = record {
-      known = subst (λ (qs : List ℕ). keeper < length qs) (sym saving.keeps.quotas) known;
-      apart_from = apart;
-      kinds = ap (λ kss. get_or kss keeper []) saving.keeps.kinds ∙ same ∙ sym (ap (λ kss. get_or kss t.owner []) saving.keeps.kinds);
-      each = saving.held_are.each;
-      apart = saving.held_are.apart;
-      all = saving.held_are.all;
-    }
-
--- ---- all given back
-
-pub saved_held : (t : PooledTable) (pool : Pool) (saved : SavedSlots) → IsHeldBeside t pool saved → AreHeld pool saved.owner saved.slots
-saved_held t pool saved beside = record { each = beside.each; apart = beside.apart; all = beside.all }
+  pub saving_all : length t.slots ≤ at → HasSaved t pool items
+  saving_all all = record {
+    table = holds;
+    each = subst (AllByRecursion (λ entry. length (states_at pool entry.1) ≡ length (kinds_at pool t.owner))) (take_all at t.slots all) saving.each;
+    states_are = saving.states_are ∙ ap (flat_map (λ (entry : List Value × Place). states_at pool entry.1)) (take_all at t.slots all);
+  }
 
 -- ---- maps that are the same
 
@@ -305,37 +199,7 @@ same_held owner one two ss a b same = same_at (numbers ss) (slots_of one owner) 
         let tail : map (states_at one) ss ≡ map (states_at two) ss = cc in
         (its_get one s a.0 ∙ ap Some head ∙ sym (its_get two s b.0), agree ss a.1 b.1 tail)
 
--- ---- the groups put back
-
--- lists of the same length at the front of the same list
-same_front : {X : Type 0} (xs ys us vs : List X) → xs ++ us ≡ ys ++ vs → length xs ≡ length ys → xs ≡ ys
-same_front [] [] us vs e len = refl
-same_front [] (y ∷ ys) us vs e len = absurd (omega (arith, len))
-same_front (x ∷ xs) [] us vs e len = absurd (omega (arith, len))
-same_front (x ∷ xs) (y ∷ ys) us vs e len =
-    let head : x ≡ y = cc in
-    let tail : xs ++ us ≡ ys ++ vs = cc in
-    let less : length xs ≡ length ys = omega (arith, len) in λ i. head i ∷ same_front xs ys us vs tail less i
-
-drop_places : (P : Place → Type 0) (n : ℕ) (ss : List Place) → AllByRecursion P ss → AllByRecursion P (drop n ss)
-drop_places P zero ss h = h
-drop_places P (suc n) [] h = tt
-drop_places P (suc n) (s ∷ ss) h = drop_places P n ss h.1
-
-drop_apart : (n : ℕ) (ss : List Place) → IsDistinct nat_eq (numbers ss) → IsDistinct nat_eq (numbers (drop n ss))
-unfolding IsDistinct
-drop_apart zero ss d = d
-drop_apart (suc n) [] d = tt
-drop_apart (suc n) (s ∷ ss) d = drop_apart n ss d.1
-
-head_apart : (s : Place) (ss : List Place) → IsDistinct nat_eq (numbers (s ∷ ss)) → AllByRecursion (λ m. nat_eq s.number m ≡ false) (numbers ss)
-unfolding IsDistinct
-head_apart s ss d = d.0
-
-get_place : (es : Entries) (at : ℕ) (key : List Value) (own : Place) → Some (key, own) ≡ slice_get es at → Some own ≡ slice_get (places es) at
-get_place [] at key own is = absurd (none_some (sym is))
-get_place (e ∷ es) zero key own is = let same : (key, own) ≡ e = cc in ap (λ (e : List Value × Place). Some e.1) same
-get_place (e ∷ es) (suc at) key own is = get_place es at key own is
+-- ---- the newest groups given back
 
 places_push : (es : Entries) (key : List Value) (slot : Place) → places (es ++ (key, slot) ∷ []) ≡ places es ++ slot ∷ []
 places_push [] key slot = refl
@@ -368,105 +232,143 @@ module _ (t : PooledTable) (before pool : Pool) (es : Entries) (key : List Value
     front = ((key, slot) ∷ short.front.0, short.front.1 ∙ append_assoc es ((key, slot) ∷ []) short.front.0);
   }
 
-pub none_of : (ss : List Place) → length ss ≡ 0 → ss ≡ []
-none_of [] len = refl
-none_of (s ∷ ss) len = absurd (omega (arith, len))
+-- ---- the groups put back
 
--- the last of the groups have the states that were saved, and the slots that these were in are given back
-pub record PutBack (t : PooledTable) (before : Pool) (saved : SavedSlots) (es : Entries) (pool : Pool) (rest : List Place) : Type 0 where
+-- lists of the same length at the front of the same list
+same_front : {X : Type 0} (xs ys us vs : List X) → xs ++ us ≡ ys ++ vs → length xs ≡ length ys → (xs ≡ ys) × (us ≡ vs)
+same_front [] [] us vs e len = (refl, e)
+same_front [] (y ∷ ys) us vs e len = absurd (omega (arith, len))
+same_front (x ∷ xs) [] us vs e len = absurd (omega (arith, len))
+same_front (x ∷ xs) (y ∷ ys) us vs e len =
+    let head : x ≡ y = cc in
+    let tail : xs ++ us ≡ ys ++ vs = cc in
+    let less : length xs ≡ length ys = omega (arith, len) in
+    let rest = same_front xs ys us vs tail less in (λ i. head i ∷ rest.0 i, rest.1)
+
+same_factor : (n k m : ℕ) → 0 < n → n * k ≡ n * m → k ≡ m
+same_factor n k m lt is = sym (mul-div_cancel_left k lt) ∙ ap (λ p. p / n) is ∙ mul-div_cancel_left m lt
+
+long_rows : (pool : Pool) (k : ℕ) (ss : List Place) → AllByRecursion (λ s. length (states_at pool s) ≡ k) ss → length (flat_map (states_at pool) ss) ≡ length ss * k
+long_rows pool k [] each = sym (zero-mul k)
+long_rows pool k (s ∷ ss) each =
+    let one : suc (length ss) * k ≡ length ss * k + k = suc-mul (length ss) k in
+    omega (arith, one, length-append (states_at pool s) (flat_map (states_at pool) ss), long_rows pool k ss each.1, each.0)
+
+-- slots whose states are the same one after the other have the same states, where each has as many
+same_rows : (one two : Pool) (k : ℕ) (ss : List Place) → AllByRecursion (λ s. length (states_at one s) ≡ k) ss → AllByRecursion (λ s. length (states_at two s) ≡ k) ss
+    → flat_map (states_at one) ss ≡ flat_map (states_at two) ss → map (states_at one) ss ≡ map (states_at two) ss
+same_rows one two k [] a b is = refl
+same_rows one two k (s ∷ ss) a b is =
+    let parts = same_front (states_at one s) (states_at two s) (flat_map (states_at one) ss) (flat_map (states_at two) ss) is (a.0 ∙ sym b.0) in
+    λ i. parts.0 i ∷ same_rows one two k ss a.1 b.1 parts.1 i
+
+push_place : (P : Place → Type 0) (ss : List Place) (s : Place) → AllByRecursion P ss → P s → AllByRecursion P (ss ++ s ∷ [])
+push_place P [] s h one = (one, tt)
+push_place P (x ∷ ss) s h one = (h.0, push_place P ss s h.1 one)
+
+take_places : (P : Place → Type 0) (n : ℕ) (ss : List Place) → AllByRecursion P ss → AllByRecursion P (take n ss)
+take_places P zero ss h = tt
+take_places P (suc n) [] h = tt
+take_places P (suc n) (s ∷ ss) h = (h.0, take_places P n ss h.1)
+
+take_numbers : (P : ℕ → Type 0) (n : ℕ) (ss : List Place) → AllByRecursion P (numbers ss) → AllByRecursion P (numbers (take n ss))
+take_numbers P zero ss h = tt
+take_numbers P (suc n) [] h = tt
+take_numbers P (suc n) (s ∷ ss) h = (h.0, take_numbers P n ss h.1)
+
+take_apart : (n : ℕ) (ss : List Place) → IsDistinct nat_eq (numbers ss) → IsDistinct nat_eq (numbers (take n ss))
+unfolding IsDistinct
+take_apart zero ss d = tt
+take_apart (suc n) [] d = tt
+take_apart (suc n) (s ∷ ss) d = (take_numbers (λ m. nat_eq s.number m ≡ false) n ss d.0, take_apart n ss d.1)
+
+get_place : (es : Entries) (at : ℕ) (key : List Value) (own : Place) → Some (key, own) ≡ slice_get es at → Some own ≡ slice_get (places es) at
+get_place [] at key own is = absurd (none_some (sym is))
+get_place (e ∷ es) zero key own is = let same : (key, own) ≡ e = cc in ap (λ (e : List Value × Place). Some e.1) same
+get_place (e ∷ es) (suc at) key own is = get_place es at key own is
+
+places_take : (es : Entries) (at : ℕ) (key : List Value) (own : Place) → Some (key, own) ≡ slice_get es at → take (at + 1) (places es) ≡ take at (places es) ++ own ∷ []
+places_take es at key own is = entry_at (places es) at own (get_place es at key own is)
+
+-- the first of the groups have the states of a list
+pub record PutBack (t : PooledTable) (before : Pool) (states : List AggState) (k : ℕ) (es : Entries) (pool : Pool) (at : ℕ) : Type 0 where
   pub own : AreHeld pool t.owner (places es)
-  pub kept : AreHeld pool saved.owner rest
-  pub keeps : KeepsBut t.owner saved.owner before pool
-  pub states : map (states_at pool) rest ++ map (states_at pool) (drop (length rest) (places es)) ≡ map (states_at before) saved.slots
+  pub keeps : KeepsOthers t.owner before pool
+  pub each : AllByRecursion (λ s. length (states_at pool s) ≡ k) (take at (places es))
+  pub states_are : flat_map (states_at pool) (take at (places es)) ≡ take (at * k) states
 
-module _ (t : PooledTable) (before : Pool) (saved : SavedSlots) (beside : IsHeldBeside t before saved) (es : Entries) where
-  pub put_none : (pool : Pool) → Shortened t before pool es → length es ≡ length saved.slots → PutBack t before saved es pool saved.slots
-  put_none pool short len =
-      let same = short.keeps.others saved.owner beside.apart_from in
-      let held = saved_held t before saved beside in
-      let end : length (places es) ≤ length saved.slots = omega (arith, len, length-map es (λ (e : List Value × Place). e.1)) in
-      record {
-        own = short.held_are;
-        kept = held_still saved.owner before pool same saved.slots held;
-        keeps = record { quotas = short.keeps.quotas; kinds = short.keeps.kinds; width = short.keeps.width; others = λ other one two. short.keeps.others other one };
-        states = ap (λ l. map (states_at pool) saved.slots ++ map (states_at pool) l) (drop_all (places es) (length saved.slots) end)
-            ∙ append-nil (map (states_at pool) saved.slots) ∙ states_still saved.owner before pool same saved.slots held.each;
-      }
+module _ (t : PooledTable) (before : Pool) (states : List AggState) (k : ℕ) (es : Entries) where
+  pub put_none : (pool : Pool) → Shortened t before pool es → PutBack t before states k es pool 0
+  put_none pool short = record { own = short.held_are; keeps = short.keeps; each = tt; states_are = ap (λ n. take n states) (sym (zero-mul k)) }
 
-  module _ (pool : Pool) (rest : List Place) (from : Place) (put : PutBack t before saved es pool (rest ++ from ∷ []))
-      (key : List Value) (own : Place) (is : Some (key, own) ≡ slice_get es (length rest)) where
-    from_slot : IsSlotOf pool saved.owner from
-    from_slot = last_slot saved.owner rest from pool put.kept
+  -- the states of a group are within the list
+  pub row_fits : (at count : ℕ) → at < count → length states ≡ count * k → at * k + k ≤ length states
+  row_fits at count lt len =
+      let next : suc at ≤ count = omega (arith, lt) in
+      let same : k ≤ k = omega arith in
+      let whole : suc at * k ≤ count * k = mul-le (suc at) k count k next same in
+      let one : suc at * k ≡ at * k + k = suc-mul at k in
+      omega (arith, one, whole, len)
 
-    pub from_out : IsOut pool from
-    from_out = from_slot.out
+  pub row_long : (at count : ℕ) → at < count → length states ≡ count * k → length (take k (drop (at * k) states)) ≡ k
+  row_long at count lt len = length-take-le k (drop (at * k) states) (omega (arith, row_fits at count lt len, length-drop (at * k) states))
 
-    next : drop (length rest) (places es) ≡ own ∷ drop (length rest + 1) (places es)
-    next = drop_next (places es) (length rest) own (get_place es (length rest) key own is)
+  module _ (pool : Pool) (at : ℕ) (put : PutBack t before states k es pool at) (key : List Value) (own : Place) (is : Some (key, own) ≡ slice_get es at) where
+    taken : AllByRecursion (IsSlotOf pool t.owner) (take at (places es) ++ own ∷ [])
+    taken = subst (AllByRecursion (IsSlotOf pool t.owner)) (places_take es at key own is) (take_places (IsSlotOf pool t.owner) (at + 1) (places es) put.own.each)
 
-    onward : AllByRecursion (IsSlotOf pool t.owner) (own ∷ drop (length rest + 1) (places es))
-    onward = subst (AllByRecursion (IsSlotOf pool t.owner)) next (drop_places (IsSlotOf pool t.owner) (length rest) (places es) put.own.each)
+    parts_taken : AllByRecursion (IsSlotOf pool t.owner) (take at (places es)) × IsSlotOf pool t.owner own
+    parts_taken = init_place (IsSlotOf pool t.owner) (take at (places es)) own taken
 
     pub own_out : IsOut pool own
-    own_out = onward.0.out
+    own_out = parts_taken.1.out
 
-    pub both_apart : from.owner ≢ own.owner
-    both_apart same = beside.apart_from (sym from_slot.owned ∙ same ∙ onward.0.owned)
+    pub own_kinds : kinds_at pool own.owner ≡ kinds_at before t.owner
+    own_kinds = ap (kinds_at pool) parts_taken.1.owned ∙ ap (λ kss. get_or kss t.owner []) put.keeps.kinds
 
-    pub both_kinds : kinds_at pool own.owner ≡ kinds_at pool from.owner
-    both_kinds = ap (kinds_at pool) onward.0.owned ∙ ap (λ kss. get_or kss t.owner []) put.keeps.kinds ∙ sym beside.kinds
-        ∙ sym (ap (λ kss. get_or kss saved.owner []) put.keeps.kinds) ∙ ap (kinds_at pool) (sym from_slot.owned)
+    away : AllByRecursion (λ m. nat_eq own.number m ≡ false) (numbers (take at (places es)))
+    away = (frames.init_apart (numbers (take at (places es))) own.number
+        (subst (IsDistinct nat_eq) (ap numbers (places_take es at key own is) ∙ map-append (λ (s : Place). s.number) (take at (places es)) (own ∷ []))
+        (take_apart (at + 1) (places es) put.own.apart))).1
 
-    away : AllByRecursion (λ m. nat_eq own.number m ≡ false) (numbers (drop (length rest + 1) (places es)))
-    away = head_apart own (drop (length rest + 1) (places es)) (subst (λ (ss : List Place). IsDistinct nat_eq (numbers ss)) next (drop_apart (length rest) (places es) put.own.apart))
+    module _ (w : List AggState) (w_is : w ≡ take k (drop (at * k) states)) (long : length w ≡ k) (new : Pool) (writes : Writes own w pool new) where
+      same_before : map (states_at new) (take at (places es)) ≡ map (states_at pool) (take at (places es))
+      same_before = written_others own w pool new writes t.owner parts_taken.1.owned (take at (places es)) parts_taken.0 away
 
-    module _ (mid : Pool) (writes : Writes own (states_at pool from) pool mid) where
-      saved_there : slots_of mid saved.owner ≡ slots_of pool saved.owner
-      saved_there = writes.others saved.owner (λ same. beside.apart_from (same ∙ onward.0.owned))
+      same_long : (ss : List Place) → map (states_at new) ss ≡ map (states_at pool) ss → AllByRecursion (λ s. length (states_at pool s) ≡ k) ss → AllByRecursion (λ s. length (states_at new s) ≡ k) ss
+      same_long [] same h = tt
+      same_long (s ∷ ss) same h =
+          let head : states_at new s ≡ states_at pool s = cc in
+          let tail : map (states_at new) ss ≡ map (states_at pool) ss = cc in (ap length head ∙ h.0, same_long ss tail h.1)
 
-      kept_mid : AreHeld mid saved.owner (rest ++ from ∷ [])
-      kept_mid = held_still saved.owner pool mid saved_there (rest ++ from ∷ []) put.kept
+      same_flat : (ss : List Place) → map (states_at new) ss ≡ map (states_at pool) ss → flat_map (states_at new) ss ≡ flat_map (states_at pool) ss
+      same_flat [] same = refl
+      same_flat (s ∷ ss) same =
+          let head : states_at new s ≡ states_at pool s = cc in
+          let tail : map (states_at new) ss ≡ map (states_at pool) ss = cc in λ i. head i ++ same_flat ss tail i
 
-      pub from_still : IsOut mid from
-      from_still = (slot_still saved.owner pool mid saved_there from from_slot).out
+      here : states_at new own ≡ w
+      here = frames.states_here own w pool new writes
 
-      own_mid : AreHeld mid t.owner (places es)
-      own_mid = written_held own (states_at pool from) pool mid writes t.owner (places es) onward.0 put.own
+      pub put_next : PutBack t before states k es new (at + 1)
+      put_next = record {
+        own = written_held own w pool new writes t.owner (places es) parts_taken.1 put.own;
+        keeps = frames.keeps_both t.owner before pool new put.keeps (subst (λ o. KeepsOthers o pool new) parts_taken.1.owned (frames.keeps_changed own.owner _ pool new writes));
+        each = subst (AllByRecursion (λ s. length (states_at new s) ≡ k)) (sym (places_take es at key own is))
+            (push_place (λ s. length (states_at new s) ≡ k) (take at (places es)) own (same_long (take at (places es)) same_before put.each) (ap length here ∙ long));
+        states_are = ap (flat_map (states_at new)) (places_take es at key own is)
+            ∙ sym (flat_map_more (states_at new) [] (take at (places es)) own)
+            ∙ (λ i. same_flat (take at (places es)) same_before i ++ here i)
+            ∙ (λ i. put.states_are i ++ w_is i)
+            ∙ sym (take-add (at * k) k states)
+            ∙ ap (λ n. take n states) (sym (let on : (at + 1) * k ≡ suc at * k = ap (λ n. n * k) (let e : at + 1 ≡ suc at = omega arith in e) in on ∙ suc-mul at k));
+      }
 
-      states_mid : map (states_at mid) rest ++ map (states_at mid) (drop (length rest) (places es)) ≡ map (states_at before) saved.slots
-      states_mid =
-          (λ i. states_still saved.owner pool mid saved_there rest (init_place (IsSlotOf pool saved.owner) rest from put.kept.each).0 i ++ map (states_at mid) (next i))
-          ∙ (λ i. map (states_at pool) rest ++ (frames.states_here own (states_at pool from) pool mid writes i
-          ∷ written_others own (states_at pool from) pool mid writes t.owner onward.0.owned (drop (length rest + 1) (places es)) onward.1 away i))
-          ∙ sym (append_assoc (map (states_at pool) rest) (states_at pool from ∷ []) (map (states_at pool) (drop (length rest + 1) (places es))))
-          ∙ sym (λ i. map-append (states_at pool) rest (from ∷ []) i ++ map (states_at pool) (drop (length-append rest (from ∷ []) i) (places es)))
-          ∙ put.states
-
-      pub put_next : (new : Pool) → GivesBack from mid new → PutBack t before saved es new rest
-      put_next new gives =
-          let keeps = given_keeps saved.owner rest from mid kept_mid new gives in
-          let same : slots_of new t.owner ≡ slots_of mid t.owner = keeps.others t.owner (λ is. beside.apart_from (sym is)) in
-          record {
-            own = held_still t.owner mid new same (places es) own_mid;
-            kept = given_held saved.owner rest from mid kept_mid new gives;
-            keeps = record {
-              quotas = keeps.quotas ∙ writes.quotas ∙ put.keeps.quotas;
-              kinds = keeps.kinds ∙ writes.kinds ∙ put.keeps.kinds;
-              width = keeps.width ∙ writes.width ∙ put.keeps.width;
-              others = λ other one two. keeps.others other two ∙ writes.others other (λ is. one (is ∙ onward.0.owned)) ∙ put.keeps.others other one two;
-            };
-            states = (λ i. given_states saved.owner rest from mid kept_mid new gives i
-                ++ states_still t.owner mid new same (drop (length rest) (places es)) (drop_places (IsSlotOf mid t.owner) (length rest) (places es) own_mid.each) i)
-                ∙ states_mid;
-          }
-
-  module _ (pool : Pool) (put : PutBack t before saved es pool []) (short : (more : Entries) × (t.slots ≡ es ++ more)) (len : length es ≡ length saved.slots)
-      (was : PooledTable) (first : Pool) (extends : Extends was t) (has : HasSaved was first before saved) where
-    same_count : length es ≡ length was.slots
-    same_count = len ∙ sym (length-map saved.slots (states_at before)) ∙ ap length has.states ∙ length-map was.slots (λ (e : List Value × Place). states_at first e.1)
-
+  module _ (pool : Pool) (at : ℕ) (put : PutBack t before states k es pool at) (short : (more : Entries) × (t.slots ≡ es ++ more))
+      (all : at ≡ length es) (len : length states ≡ length es * k)
+      (was : PooledTable) (first : Pool) (extends : Extends was t) (count : length es ≡ length was.slots) (has : HasSaved was first states) where
     was_slots : es ≡ was.slots
-    was_slots = same_front es was.slots short.0 extends.0 (sym short.1 ∙ ap (λ (u : PooledTable). u.slots) extends.1) same_count
+    was_slots = (same_front es was.slots short.0 extends.0 (sym short.1 ∙ ap (λ (u : PooledTable). u.slots) extends.1) count).0
 
     pub table_back : with_slots t es ≡ was
     table_back = ap (λ (u : PooledTable). with_slots u es) extends.1 ∙ ap (with_slots was) was_slots
@@ -474,8 +376,44 @@ module _ (t : PooledTable) (before : Pool) (saved : SavedSlots) (beside : IsHeld
     same_owner : t.owner ≡ was.owner
     same_owner = ap (λ (u : PooledTable). u.owner) extends.1
 
+    whole : take at (places es) ≡ places es
+    whole = take_all at (places es) (omega (arith, all, length-map es (λ (e : List Value × Place). e.1)))
+
+    its_states : flat_map (states_at pool) (places es) ≡ states
+    its_states = ap (flat_map (states_at pool)) (sym whole) ∙ put.states_are ∙ ap (λ n. take (n * k) states) all ∙ take_all (length es * k) states (omega (arith, len))
+
+    its_each : AllByRecursion (λ s. length (states_at pool s) ≡ k) (places es)
+    its_each = subst (AllByRecursion (λ s. length (states_at pool s) ≡ k)) whole put.each
+
+    abbrev were : ℕ
+    were = length (kinds_at first was.owner)
+
+    was_each : AllByRecursion (λ s. length (states_at first s) ≡ were) (places es)
+    was_each = subst (λ (es : Entries). AllByRecursion (λ s. length (states_at first s) ≡ were) (places es)) (sym was_slots)
+        (slots_in (λ s. length (states_at first s) ≡ were) was.slots has.each)
+
+    was_states : states ≡ flat_map (states_at first) (places es)
+    was_states = has.states_are ∙ sym (flat_map-map (states_at first) (λ (e : List Value × Place). e.1) was.slots) ∙ ap (λ (es : Entries). flat_map (states_at first) (places es)) (sym was_slots)
+
+    rows_by : (ss : List Place) → AllByRecursion (λ s. length (states_at pool s) ≡ k) ss → AllByRecursion (λ s. length (states_at first s) ≡ were) ss
+        → flat_map (states_at pool) ss ≡ flat_map (states_at first) ss → map (states_at pool) ss ≡ map (states_at first) ss
+    rows_by [] a b is = refl
+    rows_by (s ∷ ss) a b is =
+        let lengths : length (s ∷ ss) * k ≡ length (s ∷ ss) * were = sym (long_rows pool k (s ∷ ss) a) ∙ ap length is ∙ long_rows first were (s ∷ ss) b in
+        let same : k ≡ were = same_factor (length (s ∷ ss)) k were (omega arith) lengths in
+        same_rows pool first k (s ∷ ss) a (subst (λ n. AllByRecursion (λ s. length (states_at first s) ≡ n) (s ∷ ss)) (sym same) b) is
+
     pub slots_back : slots_of pool t.owner ≡ slots_of first was.owner
     slots_back = ap (slots_of pool) same_owner ∙ same_held was.owner pool first (places was.slots)
         (subst (λ o. AreHeld pool o (places was.slots)) same_owner (subst (λ (es : Entries). AreHeld pool t.owner (places es)) was_slots put.own))
         (table_held was first has.table)
-        (ap (λ (es : Entries). map (states_at pool) (places es)) (sym was_slots) ∙ put.states ∙ has.states ∙ sym (states_of first was.slots))
+        (ap (λ (es : Entries). map (states_at pool) (places es)) (sym was_slots) ∙ rows_by (places es) its_each was_each (its_states ∙ was_states)
+        ∙ ap (λ (es : Entries). map (states_at first) (places es)) was_slots)
+
+-- ---- how long the list is
+
+pub saved_long : (was : PooledTable) (before : Pool) (states : List AggState) → HasSaved was before states → length states ≡ length was.slots * length (kinds_at before was.owner)
+saved_long was before states has =
+    ap length (has.states_are ∙ sym (flat_map-map (states_at before) (λ (e : List Value × Place). e.1) was.slots))
+    ∙ long_rows before (length (kinds_at before was.owner)) (places was.slots) (slots_in (λ s. length (states_at before s) ≡ length (kinds_at before was.owner)) was.slots has.each)
+    ∙ ap (λ n. n * length (kinds_at before was.owner)) (length-map was.slots (λ (e : List Value × Place). e.1))

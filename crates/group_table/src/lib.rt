@@ -13,6 +13,5 @@ pub use fault::TableFault;
 pub use groups_in::GroupsIn;
 pub use laws::{absorb_law, adds_law, groups_law};
 pub use query_pool::{kinds_in, pool_for};
-pub use saved::SavedGroups;
 pub use state_pool::SlotPool;
 pub use table::GroupTable;

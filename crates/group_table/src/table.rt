@@ -32,7 +32,7 @@ use values::{NoMemory, Row, copy_row};
 #[derive(Drop)]
 pub struct GroupTable {
     columns: usize,
-    owner: u16,
+    pub(crate) owner: u16,
     most: u32,
     pub(crate) slots: IndexMap<Row, Slot>,
 }

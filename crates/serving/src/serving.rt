@@ -23,6 +23,7 @@ ghost use Rattle.cursors.specs.declared.cursor.Cursor.{Cursor as ACursor};
 use crate::ServeFault;
 use crate::aside::{is_too_large, let_go, put_files, set_aside};
 use crate::closing::release;
+use agg_laws::AggState;
 use cursors::{Cursor, MOST_CURSORS, answer_to, cursor_pool, free_owner, new_cursor, place_of};
 use group_table::SlotPool;
 use outside::{Bytes, Depot, NoMemory, Shelf};
@@ -36,13 +37,14 @@ use table_store::{
 };
 use values::Columns;
 
-/// Cursors that are open, the pool that their groups are in, and where the ids of the segments that
-/// they answer are put.
+/// Cursors that are open, the pool that their groups are in, where the ids of the segments that
+/// they answer are put, and where the states of the groups of one that answers were.
 #[derive(Drop)]
 pub struct Serving {
     pub pool: SlotPool,
     pub cursors: Vec<Cursor>,
     pub rooms: IdRooms,
+    pub states: Vec<AggState>,
 }
 
 impl Serving {
@@ -54,10 +56,12 @@ impl Serving {
         let pool = cursor_pool(alloc)?;
         let cursors = Vec::new(alloc);
         let rooms = IdRooms::new(alloc);
+        let states = Vec::new(alloc);
         Ok(Serving {
             pool,
             cursors,
             rooms,
+            states,
         })
     }
 
@@ -156,7 +160,8 @@ impl Serving {
         }
         let to = own.answered + 1;
         let rooms = &mut self.rooms;
-        match answer_to(alloc, shelf, table, &mut self.pool, own, to, rooms) {
+        let states = &mut self.states;
+        match answer_to(rooms, shelf, table, &mut self.pool, own, to, states) {
             Ok(()) => Ok(left - 1),
             Err(fault) => Err(ServeFault::from(fault)),
         }
@@ -196,7 +201,8 @@ impl Serving {
         let own = &mut self.cursors[at];
         let to = own.segments.len() as u32;
         let rooms = &mut self.rooms;
-        match answer_to(alloc, shelf, table, &mut self.pool, own, to, rooms) {
+        let states = &mut self.states;
+        match answer_to(rooms, shelf, table, &mut self.pool, own, to, states) {
             Ok(()) => {}
             Err(fault) => return Err(ServeFault::from(fault)),
         }

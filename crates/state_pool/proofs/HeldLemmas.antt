@@ -1,10 +1,10 @@
 -- Slots that are still held after another one is taken, and a slot that is taken and then written.
-use Rattle.std.proofs.Common.{◌≡◌, ◌≢◌, ◌∙◌, ℕ, ◌<◌, ◌≤◌, true, List, [], sym, ap, subst, arith, ◌⊎◌, inl, inr, is_some, unwrap_or}
+use Rattle.std.proofs.Common.{◌≡◌, ◌≢◌, ◌∙◌, ℕ, ◌<◌, ◌≤◌, true, List, [], sym, ap, subst, arith, ◌⊎◌, inl, inr, is_some}
 use Rattle.std.proofs.lemmas.Bool.{cases_lt}
 use Rattle.std.specs.FinMap as finite
 use Rattle.agg_laws.specs.declared.states.AggState.{AggState}
 use Rattle.agg_laws.specs.Rows.{units_of}
-use Rattle.state_pool.specs.Pool.{Pool, Place, Slots, slots_of, kinds_at, states_at, Changes, Writes, Takes, TakesWith, IsOut}
+use Rattle.state_pool.specs.Pool.{Pool, Place, Slots, slots_of, kinds_at, Changes, Writes, Takes, IsOut}
 use Rattle.state_pool.proofs.SlotLemmas.{put_here, put_there, same_slots}
 
 -- what is asked of a number holds of every number if it holds of that one and of every other
@@ -67,14 +67,3 @@ module _ (owner : ℕ) (slot : Place) (old mid : Pool) (takes : Takes owner slot
       again m u = same_slots (finite.insert (finite.insert m slot.number u) slot.number w) (finite.insert m slot.number w) slot.number
           (put_here (finite.insert m slot.number u) slot.number w ∙ sym (put_here m slot.number w))
           (λ q ne. put_there (finite.insert m slot.number u) slot.number w q ne ∙ put_there m slot.number u q ne ∙ sym (put_there m slot.number w q ne))
-
-  -- a slot of another owner has what it had
-  pub states_beside : (other : Place) → other.owner ≢ owner → states_at mid other ≡ states_at old other
-  states_beside other ne = ap (λ (m : Slots). unwrap_or (finite.get m other.number) []) (takes.changes.others other.owner ne)
-
-  pub taken_with : (w : List AggState) (new : Pool) → Writes slot w mid new → TakesWith owner w slot old new
-  taken_with w new writes = record {
-    owner_is = takes.owner_is;
-    new_number = takes.new_number;
-    changes = subst (λ o. Changes o (finite.insert (slots_of old o) slot.number w) old new) takes.owner_is (filled w new writes);
-  }

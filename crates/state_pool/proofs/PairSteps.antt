@@ -1,4 +1,4 @@
--- The rows of two slots of different owners, whose states or whose owners are of the same kinds.
+-- The rows of two slots of different owners, whose states are of the same kinds.
 use Rattle.std.proofs.Common.{◌≡◌, ◌≢◌, ◌∙◌, ℕ, ◌+◌, ◌*◌, ◌<◌, ◌≤◌, ◌⊎◌, inl, inr, List, length, Option, Some, None, get_or, sym, ap, subst, arith}
 use Rattle.agg_laws.specs.declared.states.AggState.{AggState}
 use Rattle.agg_laws.specs.Rows.{kinds_of}
@@ -10,32 +10,32 @@ use Rattle.state_pool.proofs.CellLemmas.{other_row, row_before}
 use Rattle.state_pool.proofs.OwnerLemmas.{kinds_fit, own_kinds}
 use Rattle.state_pool.proofs.PoolSteps.{known_owner, seen_holder, seen_row, seen_long, seen_states, seen_rewrites, seen_row_kept}
 
+-- as many kinds as the owner of a slot is kept with
+module _ (owners : List Owner) (holders : List (Option ℕ)) (width : ℕ) (cells : List AggState) (free : List ℕ)
+    (kept : IsKept owners (pool_in owners holders width cells) free) (pool : Pool) (pool_is : pool_in owners holders width cells ≡ pool)
+    (owner number : ℕ) (slot : Place) (slot_is : ◌≡◌ {A = Place} (record { owner = owner; number = number }) slot) (out : IsOut pool slot)
+    (own : Owner) (is : own ≡ get_or owners owner own) (n : ℕ) (count : n ≡ length own.kinds) where
+  pub counted : n ≡ length (kinds_at pool slot.owner)
+  counted = count
+      ∙ ap length (sym (own_kinds owners holders width cells free kept owner own (known_owner owners holders width cells free kept pool pool_is owner number slot slot_is out) is))
+      ∙ (λ i. length (kinds_at (pool_is i) (ap (λ (p : Place). p.owner) slot_is i)))
+
 module _ (owners : List Owner) (holders : List (Option ℕ)) (width : ℕ) (cells : List AggState) (free : List ℕ)
     (kept : IsKept owners (pool_in owners holders width cells) free) (pool : Pool) (pool_is : pool_in owners holders width cells ≡ pool)
     (owner number : ℕ) (slot : Place) (slot_is : ◌≡◌ {A = Place} (record { owner = owner; number = number }) slot) (out : IsOut pool slot)
     (other with_number : ℕ) (from : Place) (from_is : ◌≡◌ {A = Place} (record { owner = other; number = with_number }) from) (from_out : IsOut pool from)
-    (apart : from.owner ≢ slot.owner) (kinds : (kinds_of (states_at pool slot) ≡ kinds_of (states_at pool from)) ⊎ (kinds_at pool slot.owner ≡ kinds_at pool from.owner))
+    (apart : from.owner ≢ slot.owner) (kinds : kinds_of (states_at pool slot) ≡ kinds_of (states_at pool from))
     (own : Owner) (is : own ≡ get_or owners owner own) (n : ℕ) (count : n ≡ length own.kinds) where
   few : n ≡ length (kinds_at pool slot.owner)
-  few = count
-      ∙ ap length (sym (own_kinds owners holders width cells free kept owner own (known_owner owners holders width cells free kept pool pool_is owner number slot slot_is out) is))
-      ∙ (λ i. length (kinds_at (pool_is i) (ap (λ (p : Place). p.owner) slot_is i)))
+  few = counted owners holders width cells free kept pool pool_is owner number slot slot_is out own is n count
 
   few_from : n ≡ length (kinds_at pool from.owner)
-  few_from = few ∙ by kinds
-    where
-      by : (kinds_of (states_at pool slot) ≡ kinds_of (states_at pool from)) ⊎ (kinds_at pool slot.owner ≡ kinds_at pool from.owner)
-          → length (kinds_at pool slot.owner) ≡ length (kinds_at pool from.owner)
-      by (inl same) = sym (seen_long owners holders width cells free kept pool pool_is owner number slot slot_is out)
-          ∙ same_length (states_at pool slot) (states_at pool from) same
-          ∙ seen_long owners holders width cells free kept pool pool_is other with_number from from_is from_out
-      by (inr same) = ap length same
+  few_from = few ∙ sym (seen_long owners holders width cells free kept pool pool_is owner number slot slot_is out)
+      ∙ same_length (states_at pool slot) (states_at pool from) kinds
+      ∙ seen_long owners holders width cells free kept pool pool_is other with_number from from_is from_out
 
   pub long_into : length (states_at pool slot) ≡ n
   long_into = seen_long owners holders width cells free kept pool pool_is owner number slot slot_is out ∙ sym few
-
-  pub long_from : length (states_at pool from) ≡ n
-  long_from = seen_long owners holders width cells free kept pool pool_is other with_number from from_is from_out ∙ sym few_from
 
   pub row_into : number * width + n ≤ length cells
   row_into = omega (arith, seen_row owners holders width cells free kept pool pool_is owner number slot slot_is out, few)

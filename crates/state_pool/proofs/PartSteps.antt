@@ -89,11 +89,9 @@ module _ (xs : List AggState) (from n : ℕ) (le : from + n ≤ length xs) where
       lt,
     )
 
-    pub next_copied : (a : ℕ) (u : AggState) → (from + n ≤ a) ⊎ (a + n ≤ from) → ws ≡ part_of xs a n → u ≡ get_or cells (a + i) d
-        → set cells (from + i) u ≡ with_part xs from n (take (i + 1) ws ++ drop (i + 1) (part_of xs from n))
-    next_copied a u apart ws_are so = ap (λ l. set l (from + i) u) is ∙ part_set (take i ws ++ drop i (part_of xs from n)) i u whole lt
-        ∙ ap (with_part xs from n) (copied_more (part_of xs from n) ws i d u (omega (arith, lt, length-part)) (omega (arith, lt, len))
-        (so ∙ beside (take i ws ++ drop i (part_of xs from n)) cells a i d is whole apart lt ∙ ap (λ l. get_or l i d) (sym ws_are)))
+    pub next_copied : (u : AggState) → u ≡ get_or ws i d → set cells (from + i) u ≡ with_part xs from n (take (i + 1) ws ++ drop (i + 1) (part_of xs from n))
+    next_copied u so = ap (λ l. set l (from + i) u) is ∙ part_set (take i ws ++ drop i (part_of xs from n)) i u whole lt
+        ∙ ap (with_part xs from n) (copied_more (part_of xs from n) ws i d u (omega (arith, lt, length-part)) (omega (arith, lt, len)) so)
 
   pub all_copied : (ws cells : List AggState) (i : ℕ) → i ≡ n → length ws ≡ n → cells ≡ with_part xs from n (take i ws ++ drop i (part_of xs from n))
       → cells ≡ with_part xs from n ws

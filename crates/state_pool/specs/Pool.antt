@@ -86,13 +86,6 @@ pub record Takes (owner : ℕ) (slot : Place) (old new : Pool) : Type 0 where
   pub changes : Changes owner
       (finite.insert (slots_of old owner) slot.number (units_of (kinds_at old owner))) old new
 
--- an owner has a slot more, which nobody held, with these states
-pub record TakesWith (owner : ℕ) (states : List AggState) (slot : Place) (old new : Pool) : Type 0
-  where
-    pub owner_is : slot.owner ≡ owner
-    pub new_number : (other : ℕ) → finite.get (slots_of old other) slot.number ≡ None
-    pub changes : Changes owner (finite.insert (slots_of old owner) slot.number states) old new
-
 -- the owner of a slot no longer holds it
 abbrev pub GivesBack : Place → Pool → Pool → Type 0
 GivesBack slot old new =

@@ -53,14 +53,12 @@ pub(crate) fn merge_part(cells: &mut [AggState], into: usize, from: usize, count
     }
 }
 
-/// Puts the states from one place on in the place of those from another one on.
-pub(crate) fn copy_part(cells: &mut [AggState], into: usize, from: usize, count: usize)
-    requires into { into + count ≤ length cells.old }
-    requires from { from + count ≤ length cells.old }
-    requires apart { (into + count ≤ from) ⊎ (from + count ≤ into) }
-    ensures { cells.new ≡ with_part cells.old into count (part_of cells.old from count) }
+/// Puts states in the place of those from a place on.
+pub(crate) fn copy_cells(cells: &mut [AggState], from: usize, states: &[AggState])
+    requires { from + length states.now ≤ length cells.old }
+    ensures { cells.new ≡ with_part cells.old from (length states.now) states.now }
 {
-    for i in 0..count {
-        cells[into + i] = cells[from + i];
+    for i in 0..states.len() {
+        cells[from + i] = states[i];
     }
 }

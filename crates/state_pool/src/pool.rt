@@ -5,12 +5,12 @@ ghost use Rattle.std.specs.Prelude.{◌∷◌, slice_get, slice_set, Some, None,
 ghost use Rattle.std.specs.Borrow.{sem};
 ghost use Rattle.agg_laws.specs.Numbers.{most_values};
 ghost use Rattle.agg_laws.specs.Rows.{row_of, kinds_of, merged_rows, RowFits};
-ghost use Rattle.state_pool.specs.Pool.{IsNew, IsOut, Takes, TakesWith, GivesBack, Writes, SetsKinds};
+ghost use Rattle.state_pool.specs.Pool.{IsNew, IsOut, Takes, GivesBack, Writes, SetsKinds};
 ghost use Rattle.state_pool.specs.Pool.{quota_of, kinds_at, held, states_at, with_state};
 ghost use Rattle.state_pool.specs.Kept.{AreFree, HasRoom, TakesCells, TakesNumber};
 ghost use Rattle.state_pool.specs.Lent.{LendsState};
 
-use crate::cells::{add_cells, copy_part, merge_cells, merge_part};
+use crate::cells::{add_cells, copy_cells, merge_cells, merge_part};
 use crate::slot::Slot;
 use crate::units::{add_spare, add_units, write_units};
 use agg_laws::{AggKind, AggState, Kinds, NoMemory};
@@ -88,6 +88,14 @@ impl SlotPool {
         own.quota - own.held
     }
 
+    /// How many states a slot of an owner has.
+    pub fn kind_count(&self, owner: u16) -> usize
+        requires { owner < length self.now.quotas }
+        ensures { result ≡ length (kinds_at self.now owner) }
+    {
+        self.owners[owner as usize].kinds.len()
+    }
+
     /// Gives an owner that holds no slot other kinds: the slots that it takes from now on are of
     /// these. It takes no memory.
     pub fn set_kinds(&mut self, owner: u16, kinds: Kinds)
@@ -120,23 +128,6 @@ impl SlotPool {
             own.kinds.as_slice(),
         );
         Some(Slot { owner, number })
-    }
-
-    /// A slot of another owner with the states of one, whose kinds are the same, unless the owner
-    /// holds as many slots as it may. No other slot changes.
-    pub fn take_copy(&mut self, owner: u16, from: &Slot) -> Option<Slot>
-        requires owner { owner < length self.old.quotas }
-        requires from { IsOut self.old from.now }
-        requires apart { from.now.owner ≢ owner }
-        requires kinds { kinds_at self.old owner ≡ kinds_at self.old from.now.owner }
-        ensures full { result ≡ None ↔ (held self.old owner ≡ quota_of self.old owner) }
-        ensures kept { result ≡ None → self.new ≡ self.old }
-        ensures taken { IfSome result (λ slot. TakesWith owner (states_at self.old from.now) slot
-            self.old self.new) }
-    {
-        let slot = self.take(owner)?;
-        self.copy_slot(&slot, from);
-        Some(slot)
     }
 
     /// Takes a slot back from its owner.
@@ -216,19 +207,27 @@ impl SlotPool {
         merge_part(self.cells.as_mut_slice(), into, from, count);
     }
 
-    /// The states in a slot of another owner, whose kinds are the same, in the place of a slot's
-    /// own. No other slot changes, and no memory is taken.
-    pub fn copy_slot(&mut self, slot: &Slot, from: &Slot)
-        requires out { IsOut self.old slot.now }
-        requires from { IsOut self.old from.now }
-        requires apart { from.now.owner ≢ slot.now.owner }
-        requires kinds { kinds_at self.old slot.now.owner ≡ kinds_at self.old from.now.owner }
-        ensures { Writes slot.now (states_at self.old from.now) self.old self.new }
+    /// Adds the states of a slot, as many as its owner has kinds, to a list.
+    pub fn append_states(&self, slot: &Slot, into: &mut Vec<AggState>) -> Result<(), NoMemory>
+        requires { IsOut self.now slot.now }
+        ensures states { IfOk result (λ _. into.new.items
+            ≡ into.old.items ++ states_at self.now slot.now) }
+        ensures count { length (states_at self.now slot.now)
+            ≡ length (kinds_at self.now slot.now.owner) }
     {
         let count = self.owners[slot.owner as usize].kinds.len();
-        let into = slot.number as usize * self.width;
-        let from = from.number as usize * self.width;
-        copy_part(self.cells.as_mut_slice(), into, from, count);
+        let from = slot.number as usize * self.width;
+        into.extend_from_slice(&self.cells[from..from + count])
+    }
+
+    /// Puts states in the place of those of a slot. No other slot changes, and no memory is taken.
+    pub fn put_states(&mut self, slot: &Slot, states: &[AggState])
+        requires out { IsOut self.old slot.now }
+        requires length { length states.now ≡ length (kinds_at self.old slot.now.owner) }
+        ensures { Writes slot.now states.now self.old self.new }
+    {
+        let from = slot.number as usize * self.width;
+        copy_cells(self.cells.as_mut_slice(), from, states);
     }
 }
 

@@ -7,7 +7,7 @@ invariant-newer l = record {
   columns : l.self-inside.columns ≡ l.fn.self.columns;
   owner : l.self-inside.owner ≡ l.fn.self.owner;
   most : l.self-inside.most ≡ l.fn.self.most;
-  fewer : length l.fn.saved.slots ≤ length l.self-inside.slots.entries;
+  fewer : l.fn.count ≤ length l.self-inside.slots.entries;
   short : Shortened l.fn.self l.fn.pool l.pool l.self-inside.slots.entries;
 }
 
@@ -15,9 +15,4 @@ abbrev pub decreases-newer : goal.decreases-newer
 decreases-newer l = length l.self-inside.slots.entries
 
 abbrev pub invariant-groups : goal.invariant-groups
-invariant-groups l = record {
-  put : PutBack l.fn.self l.fn.pool l.fn.saved l.self-inside.slots.entries l.pool l.slots.items;
-}
-
-abbrev pub decreases-groups : goal.decreases-groups
-decreases-groups l = length l.slots.items
+invariant-groups l = PutBack l.fn.self l.fn.pool l.states l.kinds l.self-inside.slots.entries l.pool l.at
