@@ -9,6 +9,7 @@ pub mod Pushed
 pub mod Ranges
 pub mod RangeSteps
 pub mod ReadSteps
+pub mod ShortSteps
 pub mod Spelling
 pub mod Widths
 pub mod Windows

@@ -14,7 +14,7 @@ use Rattle.bit_column.specs.Sections.{end_byte, section, AppendsRange, Reach, Re
 use Rattle.bit_column.proofs.Fields.{field-bytes}
 
 -- the bits of a range follow those before it
-span : (width from to : ℕ) → from ≤ to → to * width ≡ from * width + (to - from) * width
+pub span : (width from to : ℕ) → from ≤ to → to * width ≡ from * width + (to - from) * width
 span width from to h =
     let e : to ≡ from + (to - from) = omega arith in
     let products : (from + (to - from)) * width ≡ from * width + (to - from) * width = grind arith in

@@ -1,16 +1,16 @@
 //! A range of ids is read from a section of a file.
 ghost use Rattle.std.specs.Prelude.{◌≡◌, ◌≤◌, ◌<◌, ◌+◌, ◌-◌, ◌*◌, ◌%◌, ◌++◌, ◌∷◌, [], All, Err, IfOk, IfSome, OnOk, length};
 ghost use Rattle.outside.specs.Seen.{seen};
+ghost use Rattle.bit_column.specs.Bits.{bits_of, pieces};
 ghost use Rattle.bit_column.specs.Column.{ids_between};
 ghost use Rattle.bit_column.specs.Reading.{ReadsRange};
 ghost use Rattle.bit_column.specs.Sections.{section, AppendsRange, Readable};
 ghost use Rattle.bit_column.specs.declared.fault.ColumnFault.TheVariants.{BadId, ReadFault};
 
-use crate::file_part::FilePart;
 use crate::narrow_ids::NarrowIds;
-use crate::part::read_few;
-use crate::range_bytes::read_bytes;
+use crate::range_bytes::{read_bytes, read_short_range};
 use crate::reading::{append_ids, id_of};
+use crate::words::{number_in, word_at};
 use crate::{ColumnFault, IdRange, Width};
 use outside::{Place, Seq, Shelf};
 use std::alloc::Global;
@@ -78,23 +78,13 @@ pub fn append_range<S: Shelf>(
         };
         return append_some(alloc, shelf, place, some, buffer, ids);
     }
-    let bit = range.from as u64 * range.width.bits as u64;
+    let first = range.from as u64 * range.width.bits as u64 / 8;
     let end = (range.to as u64 * range.width.bits as u64 + 7) / 8;
-    if end > place.length {
-        return Err(ColumnFault::BadId);
-    }
-    let name = place.file.as_str();
-    let part = FilePart {
-        name,
-        offset: place.offset,
-        from: bit / 8,
-        to: end,
-    };
     let mut bytes = [0u8; 8];
-    match read_few(alloc, shelf, part, &mut bytes) {
+    match read_short_range(alloc, shelf, place, range, &mut bytes) {
         Ok(()) => {
-            let size = (end - bit / 8) as usize;
-            let id = id_of(&bytes, size, (bit % 8) as usize, range.width);
+            let size = (end - first) as usize;
+            let id = id_of(&bytes, size, first_bit(range), range.width);
             push_id(id, range.count, ids)
         }
         Err(fault) => Err(fault),
@@ -138,6 +128,9 @@ fn append_some<S: Shelf>(
     }
     let bit = first_bit(range);
     let number = (range.to - range.from) as usize;
+    if bit + number * range.width.bits as usize <= 64 {
+        return append_short(alloc, shelf, place, range, ids);
+    }
     match read_bytes(alloc, shelf, place, range, buffer) {
         Ok(()) => append_ids(
             buffer.as_slice(),
@@ -149,6 +142,71 @@ fn append_some<S: Shelf>(
         ),
         Err(fault) => Err(fault),
     }
+}
+
+// Appends the ids of a range that has some, in at most eight bytes. It takes no memory but for the
+// ids.
+#[inline(always)]
+fn append_short<S: Shelf>(
+    alloc: Global,
+    shelf: &mut S,
+    place: &Place,
+    range: IdRange,
+    ids: &mut Vec<u32>,
+) -> Result<(), ColumnFault>
+    requires some { range.from < range.to }
+    requires few { range.from * range.width.bits % 8 + (range.to - range.from) * range.width.bits
+        ≤ 64 }
+    ensures ids { OnOk result (AppendsRange (S.held shelf.old) place.now range.width.bits
+        range.count range.from range.to ids.old.items ids.new.items) }
+    ensures reads { ReadsRange result place.now range.width.bits range.count range.from range.to
+        (seen S.Shelf shelf.old) (seen S.Shelf shelf.new) }
+{
+    let mut bytes = [0u8; 8];
+    match read_short_range(alloc, shelf, place, range, &mut bytes) {
+        Ok(()) => {
+            let bit = first_bit(range) as u32;
+            push_few(
+                &bytes,
+                bit,
+                range.width,
+                range.count,
+                range.to - range.from,
+                ids,
+            )
+        }
+        Err(fault) => Err(fault),
+    }
+}
+
+// Appends so many ids from a bit of eight bytes on, each of which is to be below the count.
+#[inline(always)]
+fn push_few(
+    bytes: &[u8; 8],
+    bit: u32,
+    width: Width,
+    count: u32,
+    number: u32,
+    ids: &mut Vec<u32>,
+) -> Result<(), ColumnFault>
+    requires { bit + number * width.bits ≤ 64 }
+    ensures ids { OnOk result (ids.new.items
+        ≡ ids.old.items ++ pieces width.bits bit number (bits_of 8 bytes.now)) }
+    ensures below { OnOk result
+        (All (λ id. id < count) (pieces width.bits bit number (bits_of 8 bytes.now))) }
+    ensures bad { result ≡ Err BadId →
+        ¬ All (λ id. id < count) (pieces width.bits bit number (bits_of 8 bytes.now)) }
+    ensures read { ¬ (result ≡ Err ReadFault) }
+{
+    let word = word_at(bytes, 0);
+    for i in 0..number {
+        let id = number_in(word, bit + i * width.bits, width);
+        match push_id(id, count, ids) {
+            Ok(()) => {}
+            Err(fault) => return Err(fault),
+        }
+    }
+    Ok(())
 }
 
 /// Appends the ids of a range of a section, in two bytes each. It reads their bytes and no others,
