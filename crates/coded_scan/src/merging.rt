@@ -25,16 +25,26 @@ use std::mem::replace;
 use table_schema::BoundQuery;
 use values::{NoMemory, Row, Value};
 
+// At most so many values are kept for the next keys. It is a power of two.
+const MOST_VALUES: usize = 8192;
+
 // Room for the key and the states of one group after another, and where groups are looked for
 // first.
 #[derive(Drop)]
 struct GroupRoom {
     alloc: Global,
     ids: Vec<u32>,
-    key: Row,
+    made: MadeKey,
     states: StateRow,
     places: Vec<u64>,
     next: u32,
+}
+
+// A key that was made of values, and values of earlier keys, which are shared.
+#[derive(Drop)]
+struct MadeKey {
+    key: Row,
+    values: Vec<Option<Value>>,
 }
 
 // Where the group of a key is looked for first: at the place that is noted for ids like its own,
@@ -52,7 +62,10 @@ impl GroupRoom {
         GroupRoom {
             alloc,
             ids: Vec::new(alloc),
-            key: Row::new(alloc),
+            made: MadeKey {
+                key: Row::new(alloc),
+                values: Vec::new(alloc),
+            },
             states: StateRow::new(alloc),
             places,
             next: 0,
@@ -173,7 +186,7 @@ fn merge_ids(
         &room.ids,
         likely,
         table,
-        &mut room.key,
+        &mut room.made,
     ) {
         Ok(known) => known,
         Err(_) => return Err(TableFault::NoMemory),
@@ -183,7 +196,7 @@ fn merge_ids(
         room.meet(hash, place);
         return Ok(());
     }
-    table.merge_row(alloc, pool, &room.key, &room.states)?;
+    table.merge_row(alloc, pool, &room.made.key, &room.states)?;
     room.begin(hash, table.groups());
     Ok(())
 }
@@ -198,13 +211,13 @@ fn known_place(
     ids: &[u32],
     likely: Likely,
     table: &GroupTable,
-    key: &mut Row,
+    made: &mut MadeKey,
 ) -> Result<Option<u32>, NoMemory>
     requires table { (pool : _) × IsTableIn table.now pool }
     requires columns { table.now.columns ≡ length columns.now }
     requires row { AreIdsOfRow segment.now columns.now ids.now }
     ensures { IfOk result (λ known. OfKey segment.now columns.now ids.now (λ own.
-        MatchOption known (key.new ≡ own) (IsKeyAt table.now own))) }
+        MatchOption known (made.new.key ≡ own) (IsKeyAt table.now own))) }
 {
     if let Some(place) = likely.noted {
         if has_key(segment, columns, ids, table, place) {
@@ -214,12 +227,13 @@ fn known_place(
     if has_key(segment, columns, ids, table, likely.next) {
         return Ok(Some(likely.next));
     }
-    let room = replace(key, Row::new(alloc));
-    *key = key_by_ids(alloc, segment, columns, ids, room)?;
+    let room = replace(&mut made.key, Row::new(alloc));
+    let key = key_by_ids(alloc, segment, columns, ids, room, &mut made.values)?;
+    made.key = key;
     if likely.next == table.groups() {
         return Ok(None);
     }
-    Ok(table.find(key))
+    Ok(table.find(&made.key))
 }
 
 // Whether there is a group at a place and it has the key of some ids.
@@ -286,12 +300,14 @@ fn has_value(dictionary: &Dictionary, id: u32, value: &Value) -> bool
 }
 
 // The key of the rows that have these ids in the group columns, in place of the values of another.
+// Its values are shared with those that are kept.
 fn key_by_ids(
     alloc: Global,
     segment: &SegmentColumns<'_>,
     columns: &[u16],
     ids: &[u32],
     room: Row,
+    values: &mut Vec<Option<Value>>,
 ) -> Result<Row, NoMemory>
     requires same { length ids.now ≡ length columns.now }
     requires row { AreIdsOfRow segment.now columns.now ids.now }
@@ -300,9 +316,55 @@ fn key_by_ids(
     let mut key = room.into_vec();
     key.clear();
     for at in 0..columns.len() {
-        key.push(value_of(alloc, segment, columns[at], ids[at])?)?;
+        let place = place_for(columns.len(), at, ids[at]);
+        let value = shared_value(alloc, segment, columns[at], ids[at], values, place)?;
+        key.push(value)?;
     }
     Ok(Row::from_vec(key))
+}
+
+// Where the value of an id in one of so many columns is kept.
+fn place_for(columns: usize, at: usize, id: u32) -> usize {
+    (id as usize).wrapping_mul(columns).wrapping_add(at) & (MOST_VALUES - 1)
+}
+
+// The value of the rows that have this id in a field: a copy of the one that is kept at a place, if
+// that is it. Else it is kept there.
+fn shared_value(
+    alloc: Global,
+    segment: &SegmentColumns<'_>,
+    field: u16,
+    id: u32,
+    values: &mut Vec<Option<Value>>,
+    place: usize,
+) -> Result<Value, NoMemory>
+    requires { IsIdOfRow segment.now field id }
+    ensures { IfOk result (λ value. OfId segment.now field id (λ own. value ≡ own)) }
+{
+    if let Some(kept) = kept_at(values, place) {
+        if is_value(segment, field, id, kept) {
+            return kept.copy(alloc);
+        }
+    }
+    let value = value_of(alloc, segment, field, id)?;
+    keep(values, place, value.copy(alloc)?)?;
+    Ok(value)
+}
+
+// The value that is kept at a place, if there is one.
+fn kept_at(values: &[Option<Value>], place: usize) -> Option<&Value> {
+    values.get(place)?.as_ref()
+}
+
+// Keeps a value at a place.
+fn keep(values: &mut Vec<Option<Value>>, place: usize, value: Value) -> Result<(), NoMemory> {
+    for _ in values.len()..place.saturating_add(1) {
+        values.push(None)?;
+    }
+    if let Some(kept) = values.get_mut(place) {
+        *kept = Some(value);
+    }
+    Ok(())
 }
 
 // The value of the rows that have this id in a field.

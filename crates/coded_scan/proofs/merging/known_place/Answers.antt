@@ -16,4 +16,4 @@ returns-then-has_key-2 c = OnTrue_at c.if-has_key-2.true c.has_key-2.ensures
 pub returns : goal.returns
 returns c = λ row lt are.
     let own : List Value = key_of c.args.columns.now (row_of (table_of c.args.segment.now).columns row) in
-    found-key c.find.result c.args.table.now c.in_ok-key.field-0 own (c.in_ok-key.ensures row lt are) c.find.ensures
+    found-key c.find.result c.args.table.now c.in_ok-key.key own (c.in_ok-key.ensures row lt are) c.find.ensures

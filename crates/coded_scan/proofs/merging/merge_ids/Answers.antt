@@ -25,7 +25,7 @@ merge_at-requires-clause-at c =
     let told = c.requires.merges.row in
     let own : List Value = key_of columns (row_of (table_of segment).columns told.row) in
     let found : IsKeyAt table own c.in-Some.place =
-    subst (λ (known : Option ℕ). MatchOption known (c.known_place.new.key ≡ own) (IsKeyAt table own)) c.in-Some.is
+    subst (λ (known : Option ℕ). MatchOption known (c.known_place.new.made.key ≡ own) (IsKeyAt table own)) c.in-Some.is
     (c.in-Ok.ensures told.row told.within (subst (λ (l : List ℕ). AreIdsAt segment columns told.row l) (sym c.deref-3.ensures.value) told.are)) in
     found.within
 
@@ -39,7 +39,7 @@ merge_at-requires-clause-fits c =
     let told = c.requires.merges.row in
     let own : List Value = key_of columns (row_of (table_of segment).columns told.row) in
     let found : IsKeyAt table own c.in-Some.place =
-    subst (λ (known : Option ℕ). MatchOption known (c.known_place.new.key ≡ own) (IsKeyAt table own)) c.in-Some.is
+    subst (λ (known : Option ℕ). MatchOption known (c.known_place.new.made.key ≡ own) (IsKeyAt table own)) c.in-Some.is
     (c.in-Ok.ensures told.row told.within (subst (λ (l : List ℕ). AreIdsAt segment columns told.row l) (sym c.deref-3.ensures.value) told.are)) in
     subst (λ (k : List Value). RowFits (with_states (groups_in old) k states) most_values) (sym (found.is_key c.args.pool.now)) (c.requires.merges.fits told.row told.within told.are)
 
@@ -52,7 +52,7 @@ returns-in-Some-clause-ok c = λ row lt are.
     let states : List AggState = c.args.room.now.states in
     let own : List Value = key_of columns (row_of (table_of segment).columns row) in
     let found : IsKeyAt table own c.in-Some.place =
-    subst (λ (known : Option ℕ). MatchOption known (c.known_place.new.key ≡ own) (IsKeyAt table own)) c.in-Some.is
+    subst (λ (known : Option ℕ). MatchOption known (c.known_place.new.made.key ≡ own) (IsKeyAt table own)) c.in-Some.is
     (c.in-Ok.ensures row lt (subst (λ (l : List ℕ). AreIdsAt segment columns row l) (sym c.deref-3.ensures.value) are)) in
     subst (λ (k : List Value). Merges k states old (in_pool table c.merge_at.new.pool)) (found.is_key c.args.pool.now) c.merge_at.ensures.merges
 
@@ -65,8 +65,8 @@ merge_row-requires-clause-key c =
     let states : List AggState = c.args.room.now.states in
     let told = c.requires.merges.row in
     let own : List Value = key_of columns (row_of (table_of segment).columns told.row) in
-    let made : c.known_place.new.key ≡ own =
-    subst (λ (known : Option ℕ). MatchOption known (c.known_place.new.key ≡ own) (IsKeyAt table own)) c.in_default.is
+    let made : c.known_place.new.made.key ≡ own =
+    subst (λ (known : Option ℕ). MatchOption known (c.known_place.new.made.key ≡ own) (IsKeyAt table own)) c.in_default.is
     (c.in-Ok.ensures told.row told.within (subst (λ (l : List ℕ). AreIdsAt segment columns told.row l) (sym c.deref-3.ensures.value) told.are)) in
     ap length made ∙ length-map columns (λ (g : ℕ). get_or (row_of (table_of segment).columns told.row) g (Whole (pos 0))) ∙ sym c.requires.merges.as_many
 
@@ -79,8 +79,8 @@ merge_row-requires-clause-fits c =
     let states : List AggState = c.args.room.now.states in
     let told = c.requires.merges.row in
     let own : List Value = key_of columns (row_of (table_of segment).columns told.row) in
-    let made : c.known_place.new.key ≡ own =
-    subst (λ (known : Option ℕ). MatchOption known (c.known_place.new.key ≡ own) (IsKeyAt table own)) c.in_default.is
+    let made : c.known_place.new.made.key ≡ own =
+    subst (λ (known : Option ℕ). MatchOption known (c.known_place.new.made.key ≡ own) (IsKeyAt table own)) c.in_default.is
     (c.in-Ok.ensures told.row told.within (subst (λ (l : List ℕ). AreIdsAt segment columns told.row l) (sym c.deref-3.ensures.value) told.are)) in
     subst (λ (k : List Value). RowFits (with_states (groups_in old) k states) most_values) (sym made) (c.requires.merges.fits told.row told.within told.are)
 
@@ -91,11 +91,11 @@ returns-in_err-merge_row-clause-full c = λ bad.
     let table = c.args.table.now in
     let old : KeptGroups = in_pool table c.args.pool.now in
     let states : List AggState = c.args.room.now.states in
-    let full : c.from_residual.result ≡ Err TooManyGroups → IsNewKey old c.known_place.new.key × (finite.len (groups_in old) ≡ table.most) = search rules in (
+    let full : c.from_residual.result ≡ Err TooManyGroups → IsNewKey old c.known_place.new.made.key × (finite.len (groups_in old) ≡ table.most) = search rules in (
       (λ row lt are.
           let own : List Value = key_of columns (row_of (table_of segment).columns row) in
-          let made : c.known_place.new.key ≡ own =
-          subst (λ (known : Option ℕ). MatchOption known (c.known_place.new.key ≡ own) (IsKeyAt table own)) c.in_default.is
+          let made : c.known_place.new.made.key ≡ own =
+          subst (λ (known : Option ℕ). MatchOption known (c.known_place.new.made.key ≡ own) (IsKeyAt table own)) c.in_default.is
           (c.in-Ok.ensures row lt (subst (λ (l : List ℕ). AreIdsAt segment columns row l) (sym c.deref-3.ensures.value) are)) in
           subst (λ (k : List Value). IsNewKey old k) made (full bad).0),
       (full bad).1,
@@ -109,7 +109,7 @@ returns-clause-ok c = λ row lt are.
     let old : KeptGroups = in_pool table c.args.pool.now in
     let states : List AggState = c.args.room.now.states in
     let own : List Value = key_of columns (row_of (table_of segment).columns row) in
-    let made : c.known_place.new.key ≡ own =
-    subst (λ (known : Option ℕ). MatchOption known (c.known_place.new.key ≡ own) (IsKeyAt table own)) c.in_default.is
+    let made : c.known_place.new.made.key ≡ own =
+    subst (λ (known : Option ℕ). MatchOption known (c.known_place.new.made.key ≡ own) (IsKeyAt table own)) c.in_default.is
     (c.in-Ok.ensures row lt (subst (λ (l : List ℕ). AreIdsAt segment columns row l) (sym c.deref-3.ensures.value) are)) in
     subst (λ (k : List Value). Merges k states old (in_pool c.merge_row.new.self c.merge_row.new.pool)) made c.in_ok-merge_row.ensures.ok
