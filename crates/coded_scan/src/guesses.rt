@@ -11,7 +11,7 @@ const FREE: u64 = u64::MAX;
 // How many slots are looked at, from that of the hash on.
 const MOST_PROBES: usize = 8;
 
-// How many slots there are at first, how often they may be made twice as many.
+// How many slots there are at first, and how often they may be made twice as many.
 const FEWEST_SLOTS: usize = 64;
 
 const MOST_DOUBLINGS: usize = 14;
