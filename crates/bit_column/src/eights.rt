@@ -60,11 +60,11 @@ fn eight(bytes: &[u8], at: usize, width: Width, plan: EightPlan) -> u16x8
     u16x8::from_le_bytes(own) * plan.factors >> u16x8::splat(down)
 }
 
-// The plan for ids the first of which begins at a bit of its byte.
+/// The plan for ids the first of which begins at a bit of its byte.
 #[inline(always)]
-fn plan_from(bit: u32, width: Width) -> EightPlan
+pub fn plan_from(bit: u32, width: Width) -> EightPlan
     requires bit { bit < 8 }
-    requires narrow { width.bits ≤ 9 }
+    requires narrow { width.bits ≤ 14 }
     ensures plan { IsEightPlan width.bits result }
     ensures bit { result.bit ≡ bit }
 {
@@ -79,7 +79,7 @@ fn plan_from(bit: u32, width: Width) -> EightPlan
 #[inline(always)]
 fn positions_from(bit: u32, width: u32) -> u8x16
     requires bit { bit < 8 }
-    requires narrow { width ≤ 9 }
+    requires narrow { width ≤ 14 }
     ensures { AreEightPositions bit width result }
 {
     let mut at = [0u8; 16];
@@ -93,7 +93,7 @@ fn positions_from(bit: u32, width: u32) -> u8x16
 #[inline(always)]
 fn factors_from(bit: u32, width: u32) -> u16x8
     requires bit { bit < 8 }
-    requires narrow { width ≤ 9 }
+    requires narrow { width ≤ 14 }
     ensures { AreEightFactors bit width result }
 {
     let mut by = [0u16; 8];

@@ -6,6 +6,7 @@ ghost use Rattle.bit_column.specs.Unpacked.{IsFilled, IsPlan};
 use crate::Width;
 use crate::eights::put_eights;
 use crate::lanes::{Plan, four, plan_from};
+use crate::long_eights::put_long_eights;
 
 /// Puts the ids of so many groups of eight, which are followed by enough bytes, by code of their
 /// width.
@@ -27,11 +28,11 @@ pub fn put_narrow_groups(bytes: &[u8], bit: u32, groups: usize, width: Width, id
         7 => put_eights(bytes, bit, groups, Width { bits: 7 }, ids),
         8 => put_eights(bytes, bit, groups, Width { bits: 8 }, ids),
         9 => put_eights(bytes, bit, groups, Width { bits: 9 }, ids),
-        10 => put_all(bytes, bit, groups, Width { bits: 10 }, ids),
-        11 => put_all(bytes, bit, groups, Width { bits: 11 }, ids),
-        12 => put_all(bytes, bit, groups, Width { bits: 12 }, ids),
-        13 => put_all(bytes, bit, groups, Width { bits: 13 }, ids),
-        14 => put_all(bytes, bit, groups, Width { bits: 14 }, ids),
+        10 => put_long_eights(bytes, bit, groups, Width { bits: 10 }, ids),
+        11 => put_long_eights(bytes, bit, groups, Width { bits: 11 }, ids),
+        12 => put_long_eights(bytes, bit, groups, Width { bits: 12 }, ids),
+        13 => put_long_eights(bytes, bit, groups, Width { bits: 13 }, ids),
+        14 => put_long_eights(bytes, bit, groups, Width { bits: 14 }, ids),
         15 => put_all(bytes, bit, groups, Width { bits: 15 }, ids),
         16 => put_all(bytes, bit, groups, Width { bits: 16 }, ids),
         _ => put_all(bytes, bit, groups, width, ids),
