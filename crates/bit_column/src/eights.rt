@@ -16,8 +16,8 @@ pub struct EightPlan {
     pub factors: u16x8,
 }
 
-/// Puts the ids of so many groups of eight, of which there are some and which are followed by enough
-/// bytes, and tells whether each is below the count.
+/// Puts the ids of so many groups of eight, of which there are some and which are followed by
+/// enough bytes, and tells whether each is below the count.
 #[inline(always)]
 pub fn put_eights(
     bytes: &[u8],

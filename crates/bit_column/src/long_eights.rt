@@ -8,8 +8,8 @@ use crate::eights::{EightPlan, plan_from};
 use crate::testing::narrow_below;
 use std::simd::prelude::*;
 
-/// Puts the ids of so many groups of eight, of which there are some and which are followed by enough
-/// bytes, and tells whether each is below the count.
+/// Puts the ids of so many groups of eight, of which there are some and which are followed by
+/// enough bytes, and tells whether each is below the count.
 #[inline(always)]
 pub fn put_long_eights(
     bytes: &[u8],

@@ -9,8 +9,8 @@ use crate::lanes::{Plan, four, plan_from};
 use crate::long_eights::put_long_eights;
 use crate::testing::narrow_below;
 
-/// Puts the ids of so many groups of eight, of which there are some and which are followed by enough
-/// bytes, by code of their width, and tells whether each is below the count.
+/// Puts the ids of so many groups of eight, of which there are some and which are followed by
+/// enough bytes, by code of their width, and tells whether each is below the count.
 #[inline(never)]
 pub fn put_narrow_groups(
     bytes: &[u8],
