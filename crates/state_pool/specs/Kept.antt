@@ -56,8 +56,8 @@ pub record HasRoom (slots width holders_room cells_room free_room : ℕ) : Type 
   pub cells_fit : slots * width ≤ cells_room
   pub free_fit : slots ≤ free_room
 
--- so many rows have as many cells each as is wanted, or as they had where these are more: each has its
--- cells in the first places
+-- so many rows have as many cells each as is wanted, or as they had where these are more, and each
+-- has its cells in the first places
 pub record Widens (count width wanted new_width : ℕ) (cells new_cells : List AggState) : Type 0
   where
     pub enough : wanted ≤ new_width
