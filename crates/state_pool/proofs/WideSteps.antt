@@ -9,7 +9,7 @@ use Rattle.std.specs.FinMap as finite
 use Rattle.std.specs.FinMap.{nat_cmp-IsAntisymmetric}
 use Rattle.std.specs.Cmp.{nat_cmp_total}
 use Rattle.std.specs.Ordering.{nat_cmp}
-use Rattle.core.specs.List.{copy_within}
+use lib.Seq.{paste}
 use Rattle.agg_laws.specs.declared.states.AggState.{AggState}
 use Rattle.agg_laws.specs.Rows.{units_of}
 use Rattle.state_pool.specs.declared.pool.Owner.{Owner}
@@ -29,7 +29,7 @@ first_of (suc few) (suc n) [] le = refl
 first_of (suc few) (suc n) (x ∷ xs) le = ap (λ l. x ∷ l) (first_of few n xs (omega (arith, le)))
 
 -- a row that was moved to another place
-pub moved_row : (xs : List AggState) (from to n : ℕ) → from + n ≤ length xs → copy_within xs from (from + n) to ≡ with_part xs to n (part_of xs from n)
+pub moved_row : (xs : List AggState) (from to n : ℕ) → from + n ≤ length xs → paste xs to (drop from xs) (from + n - from) ≡ with_part xs to n (part_of xs from n)
 moved_row xs from to n le = append_assoc (take to xs) (take (from + n - from) (drop from xs)) (drop (to + (from + n - from)) xs)
     ∙ ap (λ k. take to xs ++ (take k (drop from xs) ++ drop (to + k) xs)) (let e : from + n - from ≡ n = omega arith in e)
 

@@ -1,7 +1,7 @@
-use Rattle.std.proofs.Common.{◌≡◌, ◌+◌, ◌-◌, ◌*◌, ◌++◌, ◌≤◌, length, List, rules, arith, refl, sym, ap, subst, ◌∙◌}
+use Rattle.std.proofs.Common.{◌≡◌, ◌+◌, ◌-◌, ◌*◌, ◌++◌, ◌≤◌, length, List, rules, arith, ap, ◌∙◌}
 use Rattle.std.specs.Prelude.{Result, Ok, Err, IfOk, is_ok, if◌then◌else◌}
 use Rattle.agg_laws.specs.declared.states.AggState.{AggState}
-use Rattle.state_pool.specs.Pool.{states_at, kinds_at}
+use Rattle.state_pool.specs.Pool.{states_at}
 use Rattle.state_pool.specs.Kept.{part_of}
 use Rattle.state_pool.proofs.PoolSteps.{known_owner, seen_row, seen_long, seen_states}
 use Rattle.state_pool.proofs.PairSteps.{counted}
