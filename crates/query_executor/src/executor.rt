@@ -15,6 +15,7 @@ use crate::ExecutorFault;
 use crate::pass::{Pass, pass_over};
 use outside::{Bytes, Name, Seq, Shelf};
 use segment_head::{Stored, live_segments};
+use segment_scan::IdRooms;
 use sql_reply::{MOST_GROUPS, SqlFault, answer, bound_query};
 use star_answer::docs_bound_law;
 use std::alloc::{AllocError, Global};
@@ -100,6 +101,8 @@ fn reply_to_bound<S: Shelf>(
         Ok(()) => {}
         Err(fault) => return Err(fault),
     }
+    // The room for ids is let go before the reply is made.
+    pass.rooms = IdRooms::new(alloc);
     let reply = answer(alloc, query, &pass.groups, &pass.pool)?;
     Ok(with_lines(reply, wants_lines, pass.lines.as_slice())?)
 }
