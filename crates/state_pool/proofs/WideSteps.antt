@@ -1,14 +1,12 @@
 -- Rows of cells that become wider, and the pool that they are of.
-use Rattle.std.proofs.Common.{◌≡◌, ◌≢◌, ◌∙◌, ℕ, zero, suc, ◌+◌, ◌-◌, ◌*◌, ◌<◌, ◌≤◌, ◌⊎◌, inl, inr, Bool, true, false, cond, List, [], ◌∷◌, ◌++◌, append_assoc, length, get_or, take, drop, Option, Some, None, refl, sym, ap, arith}
+use Rattle.std.proofs.Common.{◌≡◌, ◌∙◌, ℕ, zero, suc, ◌+◌, ◌-◌, ◌*◌, ◌<◌, ◌≤◌, ◌⊎◌, inl, inr, Bool, true, false, cond, List, [], ◌∷◌, ◌++◌, append_assoc, length, get_or, take, drop, Option, Some, None, refl, sym, ap, arith}
 use borrow.Author.Tests.{eqb-true}
 use Rattle.std.proofs.lemmas.Bool.{cases_lt}
-use Rattle.std.proofs.lemmas.List.{length-take-le, take-append-le, drop-append-le, length-drop}
 use Rattle.std.proofs.lemmas.Nat.{mul-le}
 use native.Mathlib.Nat.{suc-mul}
 use Rattle.std.specs.FinMap as finite
 use Rattle.std.specs.FinMap.{nat_cmp-IsAntisymmetric}
 use Rattle.std.specs.Cmp.{nat_cmp_total}
-use Rattle.std.specs.Ordering.{nat_cmp}
 use lib.Seq.{paste}
 use Rattle.agg_laws.specs.declared.states.AggState.{AggState}
 use Rattle.agg_laws.specs.Rows.{units_of}
@@ -16,7 +14,7 @@ use Rattle.state_pool.specs.declared.pool.Owner.{Owner}
 use Rattle.state_pool.specs.Pool.{Pool, Place, Slots, is_of, row_of, slots_of, kinds_at, Takes}
 use Rattle.state_pool.specs.Kept.{IsKept, HasRoom, Widens, part_of, with_part, pool_in}
 use Rattle.state_pool.proofs.SlotLemmas.{slot_at}
-use Rattle.state_pool.proofs.CellLemmas.{in_range, other_row, row_before, row_after, part_before, part_after, part_written, length-spliced, within}
+use Rattle.state_pool.proofs.CellLemmas.{in_range, row_before, row_after, part_before, part_after, part_written, length-spliced, within}
 use Rattle.state_pool.proofs.PartSteps.{length-part}
 
 -- ---- one row moved after another, from the last one on

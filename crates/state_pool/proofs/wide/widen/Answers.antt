@@ -1,4 +1,4 @@
-use Rattle.std.proofs.Common.{◌≡◌, ◌+◌, ◌-◌, ◌*◌, ◌≤◌, length, replicate, length-append, arith, sym, ap, subst, ◌∙◌}
+use Rattle.std.proofs.Common.{◌≡◌, ◌-◌, ◌*◌, length, replicate, length-append, arith, sym, ap, subst, ◌∙◌}
 use Rattle.std.proofs.lemmas.List.{with_items_is, length-replicate}
 use Rattle.agg_laws.specs.declared.states.AggState.TheVariants.{Count}
 use Rattle.state_pool.specs.Kept.{Widens, part_of}
