@@ -19,3 +19,4 @@ mod IdsAlike
 mod IdsRefused
 mod IdsLemmas
 mod IdsTest
+pub mod CountingLemmas

@@ -98,6 +98,7 @@ module _ (number : ℕ) (cursor sql : List ℕ) (table : Table) (pool : Pool) (d
       stopped_by (query.BadQuery why place) is = wrong_so (query.BadQuery why place) (is (λ e. cc))
       stopped_by (query.Unbound why place) is = wrong_so (query.Unbound why place) (is (λ e. cc))
       stopped_by (query.TooManyGroups most) is = wrong_so (query.TooManyGroups most) (is (λ e. cc))
+      stopped_by (query.TooManyDistinct most) is = wrong_so (query.TooManyDistinct most) (is (λ e. cc))
 
       pub open_wrong : (wrong : SqlFault) (s : Stop) → s ≡ sql_stop wrong → (wrong ≢ query.NoMemory → asked table false sql ≡ Err wrong) → Answered (Err s)
       open_wrong wrong s same is = subst (λ s. Answered (Err s)) (sym same) (stopped_by wrong is)

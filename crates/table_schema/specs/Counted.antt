@@ -1,5 +1,5 @@
 -- The columns whose distinct values a query counts, and the queries that find these values.
-use Rattle.std.specs.Prelude.{ℕ, false, ◌==◌, List, [], ◌∷◌, ◌++◌, map, filter_map, if◌then◌else◌, slice_get, Option, Some, None, option_and_then}
+use Rattle.std.specs.Prelude.{ℕ, Bool, ◌==◌, is_some, List, [], ◌∷◌, ◌++◌, map, filter_map, if◌then◌else◌, slice_get, Option, Some, None, option_and_then}
 use Rattle.std.specs.List.{list_any}
 use Rattle.agg_laws.specs.declared.aggregate_kind.AggKind.{AggKind}
 use Rattle.agg_laws.specs.declared.aggregate_kind.AggKind.TheVariants.{Count}
@@ -23,6 +23,10 @@ column_at query at = option_and_then counted_column (slice_get query.aggs at)
 -- the columns whose distinct values are counted, in the order of the aggregates
 abbrev pub counted_columns : List Agg → List ℕ
 counted_columns aggs = filter_map counted_column aggs
+
+-- whether a query counts distinct values
+abbrev pub counts_distinct : BoundQuery → Bool
+counts_distinct query = list_any (λ agg. is_some (counted_column agg)) query.aggs
 
 -- the group columns with one more, unless it is one of them
 abbrev pub with_column : List ℕ → ℕ → List ℕ
