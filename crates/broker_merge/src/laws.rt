@@ -1,4 +1,5 @@
-//! Laws of the order of groups, and of replies. Each is the contract of a function that does nothing.
+//! Laws of the order of groups, and of replies. Each is the contract of a function that does
+//! nothing.
 
 ghost use Rattle.std.specs.Prelude.{◌≡◌, List, IsPermutation};
 ghost use Rattle.std.specs.Cmp.{IsTotalOrder};

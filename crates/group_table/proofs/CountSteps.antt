@@ -1,5 +1,6 @@
 -- How many pairs each group has, and these numbers put in their places.
-use Rattle.std.proofs.Common.{◌≡◌, ◌∙◌, ℕ, zero, suc, ◌+◌, ◌<◌, ◌≤◌, Bool, true, false, cond, List, [], ◌∷◌, ◌++◌, length, map, max, get_or, set, take, replicate, slice_get, position, Option, Some, None, refl, sym, ap, subst, arith, inl, inr, unwrap_or}
+use Rattle.std.proofs.Common.{◌≡◌, ◌∙◌, ℕ, zero, suc, ◌+◌, ◌<◌, ◌≤◌, Bool, true, false, cond, ◌==◌, List, [], ◌∷◌, ◌++◌, length, map, max, get_or, set, take, replicate, slice_get, position, Option, Some, None, refl, sym, ap, subst, arith, inl, inr, unwrap_or}
+use Rattle.std.proofs.lemmas.Bool.{ne_eqb}
 use Rattle.std.proofs.lemmas.List.{length-map}
 use Rattle.std.proofs.lemmas.List.Sums.{count_by-le-length, sum_by_push}
 use Rattle.std.proofs.lemmas.Map.{keys-set_value, length-set_value}
@@ -93,12 +94,16 @@ module _ (columns : ℕ) where
   count_at pool pairs (e ∷ es) (suc at) lt = count_at pool pairs es at (omega (arith, lt))
 
 pub least_within : (columns n m : ℕ) → n ≤ m → 1 ≤ m → at_least_one columns n ≤ m
-least_within zero n m le some = le
-least_within (suc columns) n m le some = let at_most : max 1 n ≤ m = omega (arith, le, some) in at_most
+least_within columns n m le some = by (columns == 0)
+  where
+    by : (b : Bool) → cond b n (max 1 n) ≤ m
+    by true = le
+    by false = let at_most : max 1 n ≤ m = omega (arith, le, some) in at_most
 
 pub least_some : (columns n : ℕ) → 0 < columns → 1 ≤ at_least_one columns n
-least_some zero n grouped = absurd (omega (arith, grouped))
-least_some (suc columns) n grouped = let some : 1 ≤ max 1 n = omega arith in some
+least_some columns n grouped =
+    let some : 1 ≤ max 1 n = omega arith in
+    subst (λ m. 1 ≤ m) (sym (ap (λ b. cond b n (max 1 n)) (ne_eqb columns 0 (λ e. absurd (omega (arith, e, grouped)))))) some
 
 -- ---- a list with its first so many groups changed
 

@@ -1,5 +1,6 @@
 -- Aggregates that count distinct values are put into the groups of rows one after the other.
 use Rattle.std.proofs.Common.{◌≡◌, ◌∙◌, ℕ, zero, suc, ◌+◌, ◌<◌, ◌≤◌, Bool, true, false, cond, ◌||◌, ◌==◌, List, [], ◌∷◌, ◌++◌, map, max, length, take, drop, set, slice_get, filter, Option, Some, None, refl, sym, ap, subst, arith, is_some, unwrap_or, append_assoc, append-nil, sum_by}
+use Rattle.std.proofs.lemmas.Bool.{ne_eqb}
 use Rattle.std.proofs.lemmas.List.{length-map, take-append-drop, take_all}
 use Rattle.std.proofs.lemmas.List.Sums.{sum_by-append, sum_by-cons}
 use Rattle.std.specs.List.{AllByRecursion, IsDistinct, cons_option, list_any}
@@ -7,13 +8,14 @@ use Rattle.std.specs.Map.{keys_of, lookup}
 use Rattle.std.specs.Option.{option_map_or}
 use Rattle.std.specs.FinMap as finite
 use Rattle.values.specs.declared.value.Value.{Value}
+use Rattle.values.specs.Order.{value_eq}
 use Rattle.agg_laws.specs.States.{state_of}
 use Rattle.agg_laws.specs.declared.states.AggState.{AggState}
 use Rattle.agg_laws.specs.declared.states.AggState.TheVariants.{Count}
+use Rattle.table_schema.specs.Conditions.{cell}
 use Rattle.table_schema.specs.Counted.{counted_column, counted_columns}
 use Rattle.table_schema.specs.declared.query.Agg.{Agg}
 use Rattle.group_table.specs.Counted.{counted_groups, counted_state, counted_states, distinct_by, distinct_count, members_in, members_of, values_in}
-use Rattle.values.specs.Order.{value_eq}
 use Rattle.group_table.specs.Groups.{Group, Groups, groups_of, has_key, is_key, key_order, number_for, states_of}
 use Rattle.group_table.specs.Groups as groups
 use Rattle.group_table.specs.Kept.{key_eq}
@@ -87,24 +89,21 @@ counted_append (x ∷ xs) ys rows = ap (λ l. counted_state x rows ∷ l) (count
 
 -- ---- some values, one of them distinct at least
 
+one_distinct : (value : Value) (values : List Value) → 1 ≤ distinct_by value_eq (value ∷ values)
+one_distinct value [] = omega arith
+one_distinct value (next ∷ values) = by (list_any (value_eq value) (next ∷ values)) (one_distinct next values)
+  where
+    by : (b : Bool) → 1 ≤ distinct_by value_eq (next ∷ values) → 1 ≤ cond b (distinct_by value_eq (next ∷ values)) (distinct_by value_eq (next ∷ values) + 1)
+    by true rest = rest
+    by false rest = omega arith
+
 some_distinct : (p : List Value → Bool) (column : ℕ) (rows : List (List Value)) → list_any p rows ≡ true → 1 ≤ distinct_count (values_in column (filter p rows))
 some_distinct p column [] any = absurd (let e : false ≡ true = any in cc)
 some_distinct p column (row ∷ rows) any = by (p row) any (some_distinct p column rows)
   where
-    least : (value : Value) (values : List Value) → 1 ≤ distinct_by value_eq (value ∷ values)
-    least value values = by_any (list_any (value_eq value) values) refl
-      where
-        some_left : (vs : List Value) → list_any (value_eq value) vs ≡ true → 1 ≤ distinct_by value_eq vs
-        some_left [] any = absurd (let e : false ≡ true = any in cc)
-        some_left (v ∷ vs) any = least v vs
-
-        by_any : (b : Bool) → list_any (value_eq value) values ≡ b → 1 ≤ cond b (distinct_by value_eq values) (distinct_by value_eq values + 1)
-        by_any true t = some_left values t
-        by_any false t = omega arith
-
     by : (b : Bool) → b || list_any p rows ≡ true → (list_any p rows ≡ true → 1 ≤ distinct_count (values_in column (filter p rows)))
         → 1 ≤ distinct_count (values_in column (cond b (row ∷ filter p rows) (filter p rows)))
-    by true any rest = least _ (values_in column (filter p rows))
+    by true any rest = one_distinct (cell row column) (values_in column (filter p rows))
     by false any rest = rest any
 
 -- ---- groups whose first aggregates are as they are answered
@@ -203,7 +202,8 @@ module _ (shape : Shape) (rows : List (List Value)) where
         whole [] key n counts there = refl
         whole (c ∷ cs) key n counts there =
             let least : 1 ≤ n = subst (λ m. 1 ≤ m) (sym (counts there)) (some_distinct (has_key (c ∷ cs) key) column rows there) in
-            let same : max 1 n ≡ n = omega (arith, least) in same
+            let same : max 1 n ≡ n = omega (arith, least) in
+            ap (λ b. cond b n (max 1 n)) (ne_eqb (length (c ∷ cs)) 0 (λ e. absurd (omega (arith, e)))) ∙ same
 
         put : (e : Group) → (e.1 ≡ mixed done e.0) × (is_key shape.groups rows e.0 ≡ true) → set e.1 done (Count (at_least_one columns (pairs_with columns e.0 pairs))) ≡ mixed (suc done) e.0
         put e h =
@@ -263,11 +263,11 @@ module _ (shape : Shape) (rows : List (List Value)) where
 
   columns_append : (xs ys : List Agg) → counted_columns (xs ++ ys) ≡ counted_columns xs ++ counted_columns ys
   columns_append [] ys = refl
-  columns_append (x ∷ xs) ys = by (counted_column x)
+  columns_append (x ∷ xs) ys = by (counted_column x) (columns_append xs ys)
     where
-      by : (o : Option ℕ) → cons_option o (counted_columns (xs ++ ys)) ≡ cons_option o (counted_columns xs) ++ counted_columns ys
-      by None = columns_append xs ys
-      by (Some c) = ap (λ l. c ∷ l) (columns_append xs ys)
+      by : (o : Option ℕ) → counted_columns (xs ++ ys) ≡ counted_columns xs ++ counted_columns ys → cons_option o (counted_columns (xs ++ ys)) ≡ cons_option o (counted_columns xs) ++ counted_columns ys
+      by None rest = rest
+      by (Some c) rest = ap (λ l. c ∷ l) rest
 
   members_append : (xs ys : List Agg) → members (xs ++ ys) ≡ members xs + members ys
   members_append xs ys = ap (sum_by (members_in shape rows)) (columns_append xs ys) ∙ sum_by-append (members_in shape rows) (counted_columns xs) (counted_columns ys)
@@ -277,7 +277,7 @@ module _ (shape : Shape) (rows : List (List Value)) where
     where
       by : (o : Option ℕ) → sum_by (members_in shape rows) (cons_option o []) ≡ option_map_or (members_in shape rows) o 0
       by None = refl
-      by (Some c) = omega (arith, sum_by-cons (members_in shape rows) c [])
+      by (Some c) = sum_by-cons (members_in shape rows) c [] ∙ (let plus : (n : ℕ) → n + 0 ≡ n = λ n. omega arith in plus (members_in shape rows c))
 
   module _ (done : ℕ) (agg : Agg) (at : slice_get shape.aggs done ≡ Some agg) where
     members_next : (o : Option ℕ) → counted_column agg ≡ o → members (take (suc done) shape.aggs) ≡ members (take done shape.aggs) + option_map_or (members_in shape rows) o 0
@@ -293,15 +293,15 @@ module _ (shape : Shape) (rows : List (List Value)) where
     pub counts_plain : counted_column agg ≡ None → (found : ℕ) (es : List Group) → CountsSo done found es → CountsSo (suc done) found es
     counts_plain none found es so = record {
       counted = next_plain shape rows done agg at none es so.counted;
-      members_are = let next = members_next None none in omega (arith, so.members_are, next);
+      members_are = let next : members (take (suc done) shape.aggs) ≡ members (take done shape.aggs) + 0 = members_next None none in omega (arith, so.members_are, next);
     }
 
     module _ (column : ℕ) (some : counted_column agg ≡ Some column) where
       -- too many pairs of one column are too many distinct values
       pub many_pairs : (most : ℕ) → most < finite.len (groups_of (pairs_shape shape column) rows) → most < members_of shape rows
       many_pairs most many =
-          let next = members_next (Some column) some in
-          let within = members_within in
+          let next : members (take (suc done) shape.aggs) ≡ members (take done shape.aggs) + members_in shape rows column = members_next (Some column) some in
+          let within : members (take (suc done) shape.aggs) ≤ members_of shape rows = members_within in
           let same = pairs_are_members shape rows column in
           omega (arith, many, next, within, same)
 
@@ -313,14 +313,14 @@ module _ (shape : Shape) (rows : List (List Value)) where
             → CountsSo (suc done) (found + length pairs) (map (with_count columns done (keys_of pairs)) es)
         counts_next columns columns_are found es so = record {
           counted = next_counted shape rows done agg at column some (keys_of pairs) columns columns_are (pairs_are_values shape rows column pairs once same) es so.counted;
-          members_are = let next = members_next (Some column) some in omega (arith, so.members_are, next, pairs_long);
+          members_are = let next : members (take (suc done) shape.aggs) ≡ members (take done shape.aggs) + members_in shape rows column = members_next (Some column) some in omega (arith, so.members_are, next, pairs_long);
         }
 
         -- with these there are too many
         pub many_members : (most found : ℕ) (es : List Group) → CountsSo done found es → most < found + length pairs → most < members_of shape rows
         many_members most found es so many =
-            let next = members_next (Some column) some in
-            let within = members_within in
+            let next : members (take (suc done) shape.aggs) ≡ members (take done shape.aggs) + members_in shape rows column = members_next (Some column) some in
+            let within : members (take (suc done) shape.aggs) ≤ members_of shape rows = members_within in
             omega (arith, many, so.members_are, next, within, pairs_long)
 
   pub counts_all : (done found : ℕ) (es : List Group) → length shape.aggs ≤ done → CountsSo done found es → (finite.from_entries {R = key_order} es ≡ counted_groups shape rows) × (found ≡ members_of shape rows)
@@ -333,12 +333,12 @@ module _ (shape : Shape) (rows : List (List Value)) where
 
 no_columns : (aggs : List Agg) → counted_columns aggs ≡ [] → (rows : List (List Value)) → counted_states aggs rows ≡ states_of aggs rows
 no_columns [] none rows = refl
-no_columns (agg ∷ aggs) none rows = by (counted_column agg) none
+no_columns (agg ∷ aggs) none rows = by (counted_column agg) none (λ less. no_columns aggs less rows)
   where
-    by : (o : Option ℕ) → cons_option o (counted_columns aggs) ≡ []
+    by : (o : Option ℕ) → cons_option o (counted_columns aggs) ≡ [] → (counted_columns aggs ≡ [] → counted_states aggs rows ≡ states_of aggs rows)
         → option_map_or (λ column. Count (distinct_count (values_in column rows))) o (state_of agg.kind (map (number_for agg) rows)) ∷ counted_states aggs rows ≡ states_of (agg ∷ aggs) rows
-    by None none = ap (λ l. state_of agg.kind (map (number_for agg) rows) ∷ l) (no_columns aggs none rows)
-    by (Some c) none = absurd cc
+    by None none rest = ap (λ l. state_of agg.kind (map (number_for agg) rows) ∷ l) (rest none)
+    by (Some c) none rest = absurd cc
 
 pub plain_groups : (shape : Shape) (rows : List (List Value)) → counted_columns shape.aggs ≡ [] → counted_groups shape rows ≡ groups_of shape rows
 plain_groups shape rows none =

@@ -34,12 +34,6 @@ use Rattle.group_table.proofs.KeptLemmas.{key_equiv, key_same, key_ties, key_tot
 true_false : true ≡ false → {A : Type 0} → A
 true_false e = absurd cc
 
--- what is one of two tests that answer alike
-same_bool : (a b : Bool) → (a ≡ true → b ≡ true) → (b ≡ true → a ≡ true) → a ≡ b
-same_bool true b f g = sym (f refl)
-same_bool false true f g = g refl
-same_bool false false f g = refl
-
 -- ---- distinct things of some rows
 
 module _ {R P V : Type 0} (p : R → Bool) (same : P → P → Bool) (alike : V → V → Bool) (g : R → P) (h : R → V)
@@ -99,11 +93,12 @@ distinct_where p (e ∷ es) d = by (p e.0) (distinct_where p es d.1)
 
 keys_where : (p : List Value → Bool) (es : List Group) → keys_of (where_key key_order p es) ≡ filter p (keys_of es)
 keys_where p [] = refl
-keys_where p (e ∷ es) = by (p e.0)
+keys_where p (e ∷ es) = by (p e.0) (keys_where p es)
   where
-    by : (b : Bool) → keys_of (cond b (e ∷ where_key key_order p es) (where_key key_order p es)) ≡ cond b (e.0 ∷ filter p (keys_of es)) (filter p (keys_of es))
-    by true = ap (λ l. e.0 ∷ l) (keys_where p es)
-    by false = keys_where p es
+    by : (b : Bool) → keys_of (where_key key_order p es) ≡ filter p (keys_of es)
+        → keys_of (cond b (e ∷ where_key key_order p es) (where_key key_order p es)) ≡ cond b (e.0 ∷ filter p (keys_of es)) (filter p (keys_of es))
+    by true rest = ap (λ l. e.0 ∷ l) rest
+    by false rest = rest
 
 -- of entries with each key once, as many pass a test as there are distinct ones among others of the
 -- same map that pass it
@@ -174,11 +169,12 @@ module _ (groups : List ℕ) (column : ℕ) where
   grouped (c ∷ cs) r s in_it same =
       let head : cell r c ≡ cell s c = cc in
       let tail : map (cell r) cs ≡ map (cell s) cs = cc in
-      by (c == column) refl in_it head tail
+      by (c == column) refl in_it head (λ among. grouped cs r s among tail)
     where
-      by : (b : Bool) → (c == column) ≡ b → b || list_any (λ group. group == column) cs ≡ true → cell r c ≡ cell s c → map (cell r) cs ≡ map (cell s) cs → cell r column ≡ cell s column
-      by true t in_it head tail = let is : c ≡ column = eqb-true c column t in subst (λ n. cell r n ≡ cell s n) is head
-      by false t in_it head tail = grouped cs r s in_it tail
+      by : (b : Bool) → (c == column) ≡ b → b || list_any (λ group. group == column) cs ≡ true → cell r c ≡ cell s c
+          → (list_any (λ group. group == column) cs ≡ true → cell r column ≡ cell s column) → cell r column ≡ cell s column
+      by true t in_it head rest = let is : c ≡ column = eqb-true c column t in subst (λ n. cell r n ≡ cell s n) is head
+      by false t in_it head rest = rest in_it
 
   pairs_agree : (r s : List Value) → key_of groups r ≡ key_of groups s → key_eq (g r) (g s) ≡ value_eq (cell r column) (cell s column)
   pairs_agree r s same = by (list_any (λ group. group == column) groups) refl
@@ -213,22 +209,19 @@ module _ (groups : List ℕ) (column : ℕ) where
   any_own key row is (other ∷ rows) = by (has_key groups key other) refl (any_own key row is rows)
     where
       apart : has_key groups key other ≡ false → key_eq (g row) (g other) ≡ false
-      apart no = by_test (key_eq (g row) (g other)) refl
+      apart differs = by_test (key_eq (g row) (g other)) refl
         where
           by_test : (b : Bool) → key_eq (g row) (g other) ≡ b → b ≡ false
           by_test false t = refl
           by_test true t =
               let pairs : g row ≡ g other = same_key (g row) (g other) t in
               let keys : key_of groups row ≡ key_of groups other = sym (key_in row) ∙ ap (take (length groups)) pairs ∙ key_in other in
-              true_false (sym is ∙ ap (eq_by_cmp key_order key) keys ∙ no)
+              true_false (sym is ∙ ap (eq_by_cmp key_order key) keys ∙ differs)
 
       by : (b : Bool) → has_key groups key other ≡ b → list_any (key_eq (g row)) (map g (filter (has_key groups key) rows)) ≡ list_any (key_eq (g row)) (map g rows)
           → list_any (key_eq (g row)) (map g (cond b (other ∷ filter (has_key groups key) rows) (filter (has_key groups key) rows))) ≡ key_eq (g row) (g other) || list_any (key_eq (g row)) (map g rows)
       by true t rest = ap (λ b. key_eq (g row) (g other) || b) rest
       by false t rest = rest ∙ sym (ap (λ b. b || list_any (key_eq (g row)) (map g rows)) (apart t))
-
-  more : Bool → ℕ
-  more b = cond b 0 1
 
   -- with a row more there is one more of its key, if its pair is new
   one_more : (row : List Value) (rows : List (List Value)) (key : List Value)
@@ -293,7 +286,7 @@ module _ (groups : List ℕ) (column : ℕ) where
 
   count_one : (q : List Value) (ks : List (List Value)) → IsDistinct key_eq ks → list_any (key_eq q) ks ≡ true → count_by (λ k. key_eq q k) ks ≡ 1
   count_one q [] d there = true_false (sym there)
-  count_one q (k ∷ ks) d there = by (key_eq q k) refl there
+  count_one q (k ∷ ks) d there = by (key_eq q k) refl there (λ any. count_one q ks (IsDistinct-tail key_eq k ks d) any)
     where
       c : count_by (λ k. key_eq q k) (k ∷ ks) ≡ cond (key_eq q k) 1 0 + count_by (λ k. key_eq q k) ks
       c = sum_by-cons (λ k. cond (key_eq q k) 1 0) k ks
@@ -306,13 +299,13 @@ module _ (groups : List ℕ) (column : ℕ) where
           let zero : cond (key_eq q l) 1 0 ≡ 0 = ap (λ b. cond b 1 0) other in
           omega (arith, one, zero, no_more t ls h.1)
 
-      by : (b : Bool) → key_eq q k ≡ b → b || list_any (key_eq q) ks ≡ true → count_by (λ k. key_eq q k) (k ∷ ks) ≡ 1
-      by true t any =
+      by : (b : Bool) → key_eq q k ≡ b → b || list_any (key_eq q) ks ≡ true → (list_any (key_eq q) ks ≡ true → count_by (λ k. key_eq q k) ks ≡ 1) → count_by (λ k. key_eq q k) (k ∷ ks) ≡ 1
+      by true t any rest =
           let one : cond (key_eq q k) 1 0 ≡ 1 = ap (λ b. cond b 1 0) t in
           omega (arith, c, one, no_more t ks (IsDistinct-head key_eq k ks d))
-      by false t any =
+      by false t any rest =
           let zero : cond (key_eq q k) 1 0 ≡ 0 = ap (λ b. cond b 1 0) t in
-          omega (arith, c, zero, count_one q ks (IsDistinct-tail key_eq k ks d) any)
+          omega (arith, c, zero, rest any)
 
   turned : (row key : List Value) → has_key groups key row ≡ key_eq (key_of groups row) key
   turned row key = sym (key_ties key (key_of groups row)) ∙ key_equiv.symm key (key_of groups row)
@@ -375,9 +368,6 @@ module _ (shape : Shape) (rows : List (List Value)) (column : ℕ) where
       or_true true = refl
       or_true false = refl
 
-  its_keys : List (List Value)
-  its_keys = finite.keys (groups_of shape rows)
-
   keys_once : IsDistinct key_eq (finite.keys (groups_of shape rows))
   keys_once = sorted_distinct (finite.entries (groups_of shape rows)) (finite.entries_sorted (groups_of shape rows))
 
@@ -397,9 +387,9 @@ module _ (shape : Shape) (rows : List (List Value)) (column : ℕ) where
   abbrev entries : List Group
   entries = map (λ key. (key, states_of (pairs_shape shape column).aggs (filter (has_key (with_column shape.groups column) key) rows))) (groups.keys_of (with_column shape.groups column) rows)
 
-  keys_entries : {S : Type 0} (make : List Value → List AggState) (ks : List (List Value)) → keys_of (map (λ k. (k, make k)) ks) ≡ ks
+  keys_entries : (make : List Value → List AggState) (ks : List (List Value)) → keys_of (map (λ k. (k, make k)) ks) ≡ ks
   keys_entries make [] = refl
-  keys_entries {S} make (k ∷ ks) = ap (λ l. k ∷ l) (keys_entries {S = S} make ks)
+  keys_entries make (k ∷ ks) = ap (λ l. k ∷ l) (keys_entries make ks)
 
   some_columns : (cs : List ℕ) (rs : List (List Value)) → groups.keys_of (with_column cs column) rs ≡ map (key_of (with_column cs column)) rs
   some_columns [] rs = refl
@@ -410,7 +400,7 @@ module _ (shape : Shape) (rows : List (List Value)) (column : ℕ) where
       by false = refl
 
   entry_keys : keys_of entries ≡ map (key_of (with_column shape.groups column)) rows
-  entry_keys = keys_entries {S = Value} (λ key. states_of (pairs_shape shape column).aggs (filter (has_key (with_column shape.groups column) key) rows)) (groups.keys_of (with_column shape.groups column) rows) ∙ some_columns shape.groups rows
+  entry_keys = keys_entries (λ key. states_of (pairs_shape shape column).aggs (filter (has_key (with_column shape.groups column) key) rows)) (groups.keys_of (with_column shape.groups column) rows) ∙ some_columns shape.groups rows
 
   members : finite.len (groups_of (pairs_shape shape column) rows) ≡ members_in shape rows column
   members =
@@ -420,11 +410,12 @@ module _ (shape : Shape) (rows : List (List Value)) (column : ℕ) where
 
   filter_map : (p : List Value → Bool) (f : List Value → List Value) (rs : List (List Value)) → filter p (map f rs) ≡ map f (filter (λ r. p (f r)) rs)
   filter_map p f [] = refl
-  filter_map p f (r ∷ rs) = by (p (f r))
+  filter_map p f (r ∷ rs) = by (p (f r)) (filter_map p f rs)
     where
-      by : (b : Bool) → cond b (f r ∷ filter p (map f rs)) (filter p (map f rs)) ≡ map f (cond b (r ∷ filter (λ r. p (f r)) rs) (filter (λ r. p (f r)) rs))
-      by true = ap (λ l. f r ∷ l) (filter_map p f rs)
-      by false = filter_map p f rs
+      by : (b : Bool) → filter p (map f rs) ≡ map f (filter (λ r. p (f r)) rs)
+          → cond b (f r ∷ filter p (map f rs)) (filter p (map f rs)) ≡ map f (cond b (r ∷ filter (λ r. p (f r)) rs) (filter (λ r. p (f r)) rs))
+      by true rest = ap (λ l. f r ∷ l) rest
+      by false rest = rest
 
   values : (pairs : List Group) → IsDistinct key_eq (keys_of pairs) → finite.from_entries {R = key_order} pairs ≡ groups_of (pairs_shape shape column) rows
       → (key : List Value) → pairs_with (length shape.groups) key (keys_of pairs) ≡ distinct_count (values_in column (filter (has_key shape.groups key) rows))

@@ -1,5 +1,5 @@
 -- Pairs of a key and a value of a column, in a table of their own, counted for each group.
-use Rattle.std.specs.Prelude.{◌≡◌, ◌==◌, ℕ, ◌+◌, max, Bool, List, length, map, take, slice_index, slice_set, count_by, if◌then◌else◌, Option, Some, None}
+use Rattle.std.specs.Prelude.{◌≡◌, ◌==◌, ℕ, ◌+◌, max, Bool, List, [], ◌∷◌, filter, length, map, take, slice_index, slice_set, count_by, if◌then◌else◌, Option, Some, None}
 use Rattle.std.specs.FinMap as finite
 use Rattle.std.specs.List.{IsDistinct}
 use Rattle.std.specs.Map.{keys_of}

@@ -43,9 +43,9 @@ pub fn adds_law()
         (merged_in old (key_of shape.groups row) (states_of shape.aggs (row ∷ []))) }
 {}
 
-/// The pairs of a key and a value of a column, as groups of their own, are as many as each group has
-/// distinct values of the column, all groups together; and a key has as many of them as its rows have
-/// distinct values.
+/// The pairs of a key and a value of a column, as groups of their own, are as many as each group
+/// has distinct values of the column, all groups together; and a key has as many of them as its
+/// rows have distinct values.
 pub fn pairs_law()
     ensures members { PairsAreMembers }
     ensures values { PairsAreValues }

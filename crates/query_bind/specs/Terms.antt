@@ -44,8 +44,8 @@ abbrev pub column_of : List Field → Argument → Option ℕ
 column_of fields argument.Star = None
 column_of fields (argument.Column n) = Some (field_number fields n)
 
--- the aggregate of a call; a count of a column is the count of rows, and a count that has a column is
--- that of its distinct values
+-- the aggregate of a call; a count of a column is the count of rows, and a count that has a column
+-- is that of its distinct values
 abbrev pub agg_of : List Field → Func → Argument → Agg
 agg_of fields func.Count a = record { kind = Count; column = None }
 agg_of fields f a = record { kind = kind_of f; column = column_of fields a }

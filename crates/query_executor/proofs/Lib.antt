@@ -7,6 +7,8 @@ pub mod SegmentLemmas
 pub mod Unread
 pub mod ReplyLemmas
 pub mod PassLemmas
+pub mod CountingLemmas
+pub mod QueryLemmas
 mod StatedLemmas
 pub mod OneReads
 pub mod PlanLemmas
@@ -19,4 +21,3 @@ mod IdsAlike
 mod IdsRefused
 mod IdsLemmas
 mod IdsTest
-pub mod CountingLemmas

@@ -1,5 +1,5 @@
--- What a query reads of a segment in all its passes: its own, and one for each column whose distinct
--- values it counts.
+-- What a query reads of a segment in all its passes: its own, and one for each column whose
+-- distinct values it counts.
 use Rattle.std.specs.Prelude.{◌≡◌, ◌++◌, Bool, List, [], ◌∷◌}
 use Rattle.outside.specs.Reads.{Entry}
 use Rattle.values.specs.declared.value.Value.{Value}

@@ -1,5 +1,5 @@
 -- The columns whose distinct values a query counts, and the queries that find these values.
-use Rattle.std.specs.Prelude.{ℕ, Bool, ◌==◌, is_some, List, [], ◌∷◌, ◌++◌, map, filter_map, if◌then◌else◌, slice_get, Option, Some, None, option_and_then}
+use Rattle.std.specs.Prelude.{ℕ, Bool, false, ◌==◌, is_some, List, [], ◌∷◌, ◌++◌, map, filter_map, if◌then◌else◌, slice_get, Option, Some, None, option_and_then}
 use Rattle.std.specs.List.{list_any}
 use Rattle.agg_laws.specs.declared.aggregate_kind.AggKind.{AggKind}
 use Rattle.agg_laws.specs.declared.aggregate_kind.AggKind.TheVariants.{Count}

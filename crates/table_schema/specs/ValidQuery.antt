@@ -94,8 +94,8 @@ conjunct_fits fields (Many wide) = wide_fits fields wide
 
 -- ---- aggregates, items and keys
 
--- COUNT has a column, of which the distinct values are counted, or none; each other function has one
--- of numbers
+-- COUNT has a column, of which the distinct values are counted, or none; each other function has
+-- one of numbers
 abbrev pub column_fits : List Field → AggKind → Option ℕ → Bool
 column_fits fields Count None = true
 column_fits fields Count (Some n) = is_number_of fields n

@@ -3,7 +3,7 @@ use Rattle.std.specs.Map.{keys_of}
 use Rattle.group_table.specs.Pairs.{with_count}
 use Rattle.group_table.specs.Pooled.{IsTableIn, KeepsOthers, in_pool}
 use Rattle.group_table.proofs.CountSteps.{applied}
-use Rattle.group_table.proofs.counts.GroupTable.put_counts.Given as goal
+use Rattle.group_table.proofs.table.GroupTable.put_counts.Given as goal
 
 abbrev pub invariant-groups : goal.invariant-groups
 invariant-groups l = record {
