@@ -1,5 +1,5 @@
 -- Tests on lanes.
-use Rattle.std.proofs.Common.{◌≡◌, ◌∙◌, ◌<◌, ◌+◌, ◌-◌, ◌%◌, ◌^◌, ℕ, Bool, false, cond, leb, List, map, length, get_or, replicate, ap, arith, inl, inr, w16, w32}
+use Rattle.std.proofs.Common.{◌≡◌, ◌∙◌, ◌<◌, ◌+◌, ◌-◌, ◌%◌, ◌^◌, ℕ, Bool, false, cond, eqb, leb, List, map, length, get_or, replicate, ap, arith, inl, inr, w16, w32}
 use lib.Lanes.{zip2, mask_l, top}
 use Rattle.std.specs.Int.{bit_at}
 use Rattle.std.proofs.lemmas.Simd.{bitmask_splat, zip2_splat, bit_mask_l}
@@ -50,3 +50,25 @@ run-lanes_narrow v first more i long lt small fits =
     ∙ ap (λ n. bit_at n i) (bitmask_splat w16 leb (map f v) 64 more (length-map v f ∙ long) (omega arith))
     ∙ lane-bit (λ x. leb x more) f v i (omega (arith, long, lt))
     ∙ ap (λ b. cond b 1 0) (between-past_narrow (get_or v i 0) first more small fits)
+
+-- an id is the only one of a run
+between-same : (a first more : ℕ) → more ≡ 0 → eqb a first ≡ is_between first (first + more) a
+between-same a first more none = grind (arith, nat_tests)
+
+same-bit : (v : List ℕ) (first more i : ℕ) → length v ≡ 64 → i < 64 → more ≡ 0 → bit_at (mask_l (map (λ x. eqb x first) v)) i ≡ cond (is_between first (first + more) (get_or v i 0)) 1 0
+same-bit v first more i long lt none =
+    bit_mask_l (map (λ x. eqb x first) v) i
+    ∙ ap (λ b. cond b 1 0) (get_or-map (λ x. eqb x first) v i 0 false (omega (arith, long, lt)))
+    ∙ ap (λ b. cond b 1 0) (between-same (get_or v i 0) first more none)
+
+pub same-lanes : (v : List ℕ) (first more i : ℕ) → length v ≡ 64 → i < 64 → more ≡ 0
+    → bit_at (mask_l (map (top 31) (zip2 (λ a b. cond (eqb a b) 4294967295 0) v (replicate 64 first))) % 2 ^ 64) i ≡ cond (is_between first (first + more) (get_or v i 0)) 1 0
+same-lanes v first more i long lt none =
+    ap (λ n. bit_at n i) (bitmask_splat w32 eqb v 64 first long (omega arith))
+    ∙ same-bit v first more i long lt none
+
+pub same-lanes_narrow : (v : List ℕ) (first more i : ℕ) → length v ≡ 64 → i < 64 → more ≡ 0
+    → bit_at (mask_l (map (top 15) (zip2 (λ a b. cond (eqb a b) 65535 0) v (replicate 64 first))) % 2 ^ 64) i ≡ cond (is_between first (first + more) (get_or v i 0)) 1 0
+same-lanes_narrow v first more i long lt none =
+    ap (λ n. bit_at n i) (bitmask_splat w16 eqb v 64 first long (omega arith))
+    ∙ same-bit v first more i long lt none

@@ -12,6 +12,7 @@ ghost use Rattle.segment_plan.specs.Served.{rest_of};
 
 use crate::coded_filter::row_filters_of;
 use crate::filtered_rows::FilteredRows;
+use crate::guesses::make_room;
 use crate::keyed_scan::keyed_of;
 use crate::merging::merge_keys;
 use coded_columns::SegmentColumns;
@@ -21,12 +22,14 @@ use std::alloc::Global;
 use table_schema::BoundQuery;
 
 /// Adds the rows of a segment that satisfy those of a query's conjuncts that are not served to its
-/// groups. A group is merged once for all of them.
+/// groups. A group is merged once for all of them. The places of groups are noted for the segment
+/// that comes next, and looked at first for ids that had them in an earlier one.
 pub fn add_coded(
     alloc: Global,
     query: &BoundQuery,
     choices: &[IndexChoice],
     segment: &SegmentColumns<'_>,
+    places: &mut Vec<u64>,
     table: &mut GroupTable,
     pool: &mut SlotPool,
 ) -> Result<(), TableFault>
@@ -45,5 +48,7 @@ pub fn add_coded(
         row_filters: row_filters.as_slice(),
     };
     let keyed = keyed_of(alloc, query, rows)?;
-    merge_keys(alloc, query, rows, &keyed, table, pool)
+    let groups = keyed.firsts.len().saturating_add(table.groups() as usize);
+    make_room(alloc, places, groups)?;
+    merge_keys(alloc, query, rows, &keyed, places, table, pool)
 }

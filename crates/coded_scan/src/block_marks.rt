@@ -1,7 +1,6 @@
 //! The marks of the rows of a block that conditions let through.
 
-ghost use Rattle.std.specs.Prelude.{◌≡◌, ◌+◌, ◌/◌, ◌≤◌, ◌&&◌, ℕ, Bool, IfOk, OnOk, length, true};
-ghost use Rattle.coded_columns.specs.IdColumns.{most_rows};
+ghost use Rattle.std.specs.Prelude.{◌≡◌, ◌+◌, ◌<◌, ◌≤◌, ◌&&◌, ℕ, Bool, OnOk, length, true};
 ghost use Rattle.coded_scan.specs.Marks.{AreMarks, HasWords};
 ghost use Rattle.coded_scan.specs.RowFilters.{AllCover, all_let, covers, lets};
 
@@ -12,38 +11,9 @@ use crate::words::{has_mark, keep_both, keep_either};
 use std::alloc::Global;
 use values::NoMemory;
 
-/// The marks of the rows of a block that all conditions let through.
+/// Marks the rows of a block that all conditions let through, of which there are some, with room
+/// for the marks of one.
 pub fn mark_block(
-    alloc: Global,
-    row_filters: &[RowFilter<'_>],
-    count: usize,
-    block: Block,
-) -> Result<Vec<u64>, NoMemory>
-    requires covers { AllCover count row_filters.now }
-    requires within { block.from + block.length ≤ count }
-    requires few { count ≤ most_rows }
-    ensures count { IfOk result (λ words. length words.items ≡ block.length / 64 + 1) }
-    ensures marks { IfOk result (λ words. AreMarks block.length
-        (λ at. all_let (block.from + at) row_filters.now) words.items) }
-{
-    let mut words = words_for(alloc, block.length)?;
-    let mut others = words_for(alloc, block.length)?;
-    keep_all(alloc, row_filters, count, block, &mut words, &mut others)?;
-    Ok(words)
-}
-
-// Room for the marks of so many rows.
-fn words_for(alloc: Global, many: usize) -> Result<Vec<u64>, NoMemory>
-    requires { many ≤ most_rows }
-    ensures count { IfOk result (λ words. length words.items ≡ many / 64 + 1) }
-    ensures room { IfOk result (λ words. HasWords many words.items) }
-{
-    let words = vec![in alloc; 0u64; many / 64 + 1]?;
-    Ok(words)
-}
-
-// The marks of the rows that all conditions let through, with room for those of one.
-fn keep_all(
     alloc: Global,
     row_filters: &[RowFilter<'_>],
     count: usize,
@@ -51,15 +21,16 @@ fn keep_all(
     words: &mut [u64],
     others: &mut [u64],
 ) -> Result<(), NoMemory>
+    requires some { 0 < length row_filters.now }
     requires covers { AllCover count row_filters.now }
     requires within { block.from + block.length ≤ count }
     requires words { HasWords block.length words.old }
     requires same { length others.old ≡ length words.old }
-    ensures { OnOk result (AreMarks block.length
+    ensures marks { OnOk result (AreMarks block.length
         (λ at. all_let (block.from + at) row_filters.now) words.new) }
 {
-    mark_same(block.length, true, words);
-    for at in 0..row_filters.len() {
+    mark_rows(alloc, count, block, &row_filters[0], words)?;
+    for at in 1..row_filters.len() {
         keep(alloc, count, block, &row_filters[at], words, others)?;
     }
     Ok(())

@@ -120,7 +120,8 @@ fn push_block(
     block: Block,
     places: &mut Vec<u32>,
 ) -> Result<(), NoMemory>
-    requires { block.from + block.length ≤ rows.segment.now.count }
+    requires within { block.from + block.length ≤ rows.segment.now.count }
+    requires few { block.length ≤ 4096 }
     ensures { OnOk result (places.new.items ≡ places.old.items
         ++ passing (λ at. all_let at rows.entry.row_filters.now) block.from block.length) }
 {

@@ -9,6 +9,7 @@ mod block;
 mod block_marks;
 mod coded_filter;
 mod filtered_rows;
+mod guesses;
 mod id_run;
 mod keyed_scan;
 mod marked_places;

@@ -194,6 +194,9 @@ fn narrow_lanes(lanes: u16x64, first: u16, more: u16) -> u64
     ensures { (i : ℕ) → i < 64 → bit_at result i
         ≡ cond (is_between first (first + more) (get_or lanes i 0)) 1 0 }
 {
+    if more == 0 {
+        return lanes.simd_eq(u16x64::splat(first)).to_bitmask();
+    }
     (lanes - u16x64::splat(first))
         .simd_le(u16x64::splat(more))
         .to_bitmask()
@@ -206,6 +209,9 @@ fn wide_lanes(lanes: u32x64, first: u32, more: u32) -> u64
     ensures { (i : ℕ) → i < 64 → bit_at result i
         ≡ cond (is_between first (first + more) (get_or lanes i 0)) 1 0 }
 {
+    if more == 0 {
+        return lanes.simd_eq(u32x64::splat(first)).to_bitmask();
+    }
     (lanes - u32x64::splat(first))
         .simd_le(u32x64::splat(more))
         .to_bitmask()

@@ -15,6 +15,7 @@ ghost use Rattle.coded_scan.specs.KeysOfIds.{CanMergeIds, OfId, OfKey};
 ghost use Rattle.coded_scan.specs.Passed.{MayMerge, passed, passed_rows, run_of};
 
 use crate::filtered_rows::FilteredRows;
+use crate::guesses::{guess, hash_of, note};
 use coded_columns::{KeyedRows, SegmentColumns};
 use dictionary::Dictionary;
 use group_table::{GroupTable, SlotPool, TableFault};
@@ -24,37 +25,76 @@ use std::mem::replace;
 use table_schema::BoundQuery;
 use values::{NoMemory, Row, Value};
 
-// Room for the key and the states of one group after another, and the place of the group that is
-// looked at first for the next key: keys come in the order of their ids, and most groups began in
-// it.
+// At most so many values are kept for the next keys. It is a power of two.
+const MOST_VALUES: usize = 8192;
+
+// Room for the key and the states of one group after another, and where groups are looked for
+// first.
 #[derive(Drop)]
 struct GroupRoom {
     alloc: Global,
     ids: Vec<u32>,
-    key: Row,
+    made: MadeKey,
     states: StateRow,
+    places: Vec<u64>,
+    next: u32,
+}
+
+// A key that was made of values, and values of earlier keys, which are shared.
+#[derive(Drop)]
+struct MadeKey {
+    key: Row,
+    values: Vec<Option<Value>>,
+}
+
+// Where the group of a key is looked for first: at the place that is noted for ids like its own,
+// and after the group of the last key, since keys come in the order of their ids, and most groups
+// began in it.
+#[derive(Clone, Copy)]
+struct Likely {
+    noted: Option<u32>,
     next: u32,
 }
 
 impl GroupRoom {
-    // Room that takes no memory yet.
-    fn new(alloc: Global) -> GroupRoom {
+    // Room with the places that are noted.
+    fn new(alloc: Global, places: Vec<u64>) -> GroupRoom {
         GroupRoom {
             alloc,
             ids: Vec::new(alloc),
-            key: Row::new(alloc),
+            made: MadeKey {
+                key: Row::new(alloc),
+                values: Vec::new(alloc),
+            },
             states: StateRow::new(alloc),
+            places,
             next: 0,
+        }
+    }
+
+    // Notes where the group of ids of this hash was.
+    fn meet(&mut self, hash: u64, place: u32) {
+        note(&mut self.places, hash, place);
+        self.next = place.wrapping_add(1);
+    }
+
+    // Notes that the last of so many groups is that of ids of this hash.
+    fn begin(&mut self, hash: u64, groups: u32) {
+        note(&mut self.places, hash, groups.wrapping_sub(1));
+        if self.next.wrapping_add(1) == groups {
+            self.next = groups;
         }
     }
 }
 
-/// Merges the states of each key into its group.
+/// Merges the states of each key into its group. Where ids had their groups before is looked at
+/// first, and where they have them now is noted.
 pub fn merge_keys(
     alloc: Global,
     query: &BoundQuery,
     rows: FilteredRows<'_, '_>,
     keyed: &KeyedRows,
+    places: &mut Vec<u64>,
     table: &mut GroupTable,
     pool: &mut SlotPool,
 ) -> Result<(), TableFault>
@@ -68,13 +108,14 @@ pub fn merge_keys(
         (in_pool table.old pool.old) (in_pool table.new pool.new) result }
     ensures stays { StaysIn table.old pool.old table.new pool.new }
 {
-    let mut room = GroupRoom::new(alloc);
+    let mut room = GroupRoom::new(alloc, replace(places, Vec::new(alloc)));
     for key in 0..keyed.firsts.len() {
         match merge_key(query, rows, keyed, key, &mut room, table, pool) {
             Ok(()) => {}
             Err(fault) => return Err(fault),
         }
     }
+    *places = room.places;
     Ok(())
 }
 
@@ -132,60 +173,87 @@ fn merge_ids(
         × (finite.len (groups_in old) ≡ old.most) }
     ensures err { OnErr result ((table.new ≡ table.old) × (pool.new ≡ pool.old)) }
 {
-    let next = room.next;
+    let hash = hash_of(&room.ids);
+    let likely = Likely {
+        noted: guess(&room.places, hash),
+        next: room.next,
+    };
     let alloc = room.alloc;
     let known = match known_place(
         alloc,
         segment,
         columns,
         &room.ids,
-        next,
+        likely,
         table,
-        &mut room.key,
+        &mut room.made,
     ) {
         Ok(known) => known,
         Err(_) => return Err(TableFault::NoMemory),
     };
     if let Some(place) = known {
         table.merge_at(pool, place, &room.states);
-        room.next = place + 1;
+        room.meet(hash, place);
         return Ok(());
     }
-    let last = next == table.groups();
-    table.merge_row(alloc, pool, &room.key, &room.states)?;
-    if last {
-        room.next = table.groups();
-    }
+    table.merge_row(alloc, pool, &room.made.key, &room.states)?;
+    room.begin(hash, table.groups());
     Ok(())
 }
 
-// The place of the group of the key of some ids, where it is found. The group at the next place is
-// looked at first; if it has another key, that of the ids is put into a row and looked for among
-// all. Past the last group it is not looked for, since it is most likely new.
+// The place of the group of the key of some ids, where it is found. The groups at the likely places
+// are looked at first; if these have other keys, that of the ids is put into a row and looked for
+// among all. Past the last group it is not looked for, since it is most likely new.
 fn known_place(
     alloc: Global,
     segment: &SegmentColumns<'_>,
     columns: &[u16],
     ids: &[u32],
-    next: u32,
+    likely: Likely,
     table: &GroupTable,
-    key: &mut Row,
+    made: &mut MadeKey,
 ) -> Result<Option<u32>, NoMemory>
     requires table { (pool : _) × IsTableIn table.now pool }
     requires columns { table.now.columns ≡ length columns.now }
     requires row { AreIdsOfRow segment.now columns.now ids.now }
     ensures { IfOk result (λ known. OfKey segment.now columns.now ids.now (λ own.
-        MatchOption known (key.new ≡ own) (IsKeyAt table.now own))) }
+        MatchOption known (made.new.key ≡ own) (IsKeyAt table.now own))) }
 {
-    if next < table.groups() && is_key(segment, columns, ids, table.key_at(next)) {
-        return Ok(Some(next));
+    if let Some(place) = likely.noted {
+        if has_key(segment, columns, ids, table, place) {
+            return Ok(Some(place));
+        }
     }
-    let room = replace(key, Row::new(alloc));
-    *key = key_by_ids(alloc, segment, columns, ids, room)?;
-    if next == table.groups() {
+    if has_key(segment, columns, ids, table, likely.next) {
+        return Ok(Some(likely.next));
+    }
+    let room = replace(&mut made.key, Row::new(alloc));
+    let key = key_by_ids(alloc, segment, columns, ids, room, &mut made.values)?;
+    made.key = key;
+    if likely.next == table.groups() {
         return Ok(None);
     }
-    Ok(table.find(key))
+    Ok(table.find(&made.key))
+}
+
+// Whether there is a group at a place and it has the key of some ids.
+fn has_key(
+    segment: &SegmentColumns<'_>,
+    columns: &[u16],
+    ids: &[u32],
+    table: &GroupTable,
+    place: u32,
+) -> bool
+    requires table { (pool : _) × IsTableIn table.now pool }
+    requires columns { table.now.columns ≡ length columns.now }
+    requires row { AreIdsOfRow segment.now columns.now ids.now }
+    ensures { OnTrue result (OfKey segment.now columns.now ids.now (λ own.
+        IsKeyAt table.now own place)) }
+{
+    if place < table.groups() && is_key(segment, columns, ids, table.key_at(place)) {
+        return true;
+    }
+    false
 }
 
 // Whether a row is the key of some ids. No text is copied.
@@ -232,12 +300,14 @@ fn has_value(dictionary: &Dictionary, id: u32, value: &Value) -> bool
 }
 
 // The key of the rows that have these ids in the group columns, in place of the values of another.
+// Its values are shared with those that are kept.
 fn key_by_ids(
     alloc: Global,
     segment: &SegmentColumns<'_>,
     columns: &[u16],
     ids: &[u32],
     room: Row,
+    values: &mut Vec<Option<Value>>,
 ) -> Result<Row, NoMemory>
     requires same { length ids.now ≡ length columns.now }
     requires row { AreIdsOfRow segment.now columns.now ids.now }
@@ -246,9 +316,55 @@ fn key_by_ids(
     let mut key = room.into_vec();
     key.clear();
     for at in 0..columns.len() {
-        key.push(value_of(alloc, segment, columns[at], ids[at])?)?;
+        let place = place_for(columns.len(), at, ids[at]);
+        let value = shared_value(alloc, segment, columns[at], ids[at], values, place)?;
+        key.push(value)?;
     }
     Ok(Row::from_vec(key))
+}
+
+// Where the value of an id in one of so many columns is kept.
+fn place_for(columns: usize, at: usize, id: u32) -> usize {
+    (id as usize).wrapping_mul(columns).wrapping_add(at) & (MOST_VALUES - 1)
+}
+
+// The value of the rows that have this id in a field: a copy of the one that is kept at a place, if
+// that is it. Else it is kept there.
+fn shared_value(
+    alloc: Global,
+    segment: &SegmentColumns<'_>,
+    field: u16,
+    id: u32,
+    values: &mut Vec<Option<Value>>,
+    place: usize,
+) -> Result<Value, NoMemory>
+    requires { IsIdOfRow segment.now field id }
+    ensures { IfOk result (λ value. OfId segment.now field id (λ own. value ≡ own)) }
+{
+    if let Some(kept) = kept_at(values, place) {
+        if is_value(segment, field, id, kept) {
+            return kept.copy(alloc);
+        }
+    }
+    let value = value_of(alloc, segment, field, id)?;
+    keep(values, place, value.copy(alloc)?)?;
+    Ok(value)
+}
+
+// The value that is kept at a place, if there is one.
+fn kept_at(values: &[Option<Value>], place: usize) -> Option<&Value> {
+    values.get(place)?.as_ref()
+}
+
+// Keeps a value at a place.
+fn keep(values: &mut Vec<Option<Value>>, place: usize, value: Value) -> Result<(), NoMemory> {
+    for _ in values.len()..place.saturating_add(1) {
+        values.push(None)?;
+    }
+    if let Some(kept) = values.get_mut(place) {
+        *kept = Some(value);
+    }
+    Ok(())
 }
 
 // The value of the rows that have this id in a field.

@@ -1,4 +1,4 @@
-//! Where the ids of columns are put.
+//! What the scan of one segment leaves to that of the next: room for ids, and places of groups.
 
 ghost use Rattle.std.specs.Prelude.{◌≡◌, ◌<◌, ◌≤◌, ℕ, [], IfOk};
 ghost use Rattle.coded_columns.specs.Ids.{HasRoom, IsNarrow, ids_in, most_narrow};
@@ -8,11 +8,12 @@ use std::alloc::{AllocError, Global};
 use std::mem::replace;
 
 /// Where the ids of columns are put: in the room that those of an earlier segment had, and else in
-/// new memory.
+/// new memory. Beside it the places that groups had in an earlier segment, by the hashes of ids.
 #[derive(Drop)]
 pub struct IdRooms {
     alloc: Global,
     rooms: Vec<Option<Ids>>,
+    pub places: Vec<u64>,
 }
 
 impl IdRooms {
@@ -21,6 +22,7 @@ impl IdRooms {
         IdRooms {
             alloc,
             rooms: Vec::new(alloc),
+            places: Vec::new(alloc),
         }
     }
 

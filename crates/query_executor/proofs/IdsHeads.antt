@@ -1,81 +1,103 @@
--- A head with another dictionary of a column.
-use Rattle.std.proofs.Common.{◌≡◌, ◌≢◌, ◌∙◌, ◌<◌, ◌+◌, ◌==◌, ℕ, zero, suc, Bool, true, false, Option, Some, None, List, [], ◌∷◌, length, map, slice_get, refl, sym, ap, subst, eq-eqb, arith}
+-- A head with the dictionaries of the rows of columns of which ids are tested.
+use Rattle.std.proofs.Common.{◌≡◌, ◌≢◌, ◌∙◌, ◌<◌, ◌+◌, ◌==◌, ℕ, zero, suc, Bool, true, false, Option, Some, None, List, [], ◌∷◌, length, map, slice_get, refl, sym, ap, subst, arith}
 use Rattle.std.specs.List.{AllZip}
-use Rattle.std.proofs.lemmas.Bool.{eqb-true, false≢true}
-use Rattle.std.proofs.lemmas.List.{length-set}
-use Rattle.std.specs.Prelude.{set}
 use Rattle.value_ids.specs.Dictionary.{Distinct}
 use Rattle.table_schema.specs.declared.table.Table.{Table}
-use Rattle.segment_head.specs.Heads.{IsHeadOf, IsLoaded, IsPartOf, IsSlotOf, Seen, with_dictionary}
-use Rattle.segment_plan.specs.Matched.{count_in, values_in, values_of}
+use Rattle.segment_head.specs.Heads.{IsHeadOf, IsPartOf, IsSlotOf, Seen}
+use Rattle.segment_opening.specs.Found.{count_of, keeping}
 
-slot_set : {A : Type 0} (ws xs : List (Option A)) (i : ℕ) (d : A) → AllZip IsSlotOf ws xs → slice_get ws i ≡ Some (Some d) → AllZip IsSlotOf ws (set xs i (Some d))
-slot_set [] [] i d all at = tt
-slot_set [] (x ∷ xs) i d all at = absurd all
-slot_set (w ∷ ws) [] i d all at = absurd all
-slot_set (w ∷ ws) (x ∷ xs) zero d all at = let here : w ≡ Some d = cc in (here, all.1)
-slot_set (w ∷ ws) (x ∷ xs) (suc i) d all at = (all.0, slot_set ws xs i d all.1 at)
+-- the dictionaries, with those of others for each column that has a count
+abbrev pub own_in : List (Option ℕ) → List (Option Distinct) → List (Option Distinct) → List (Option Distinct)
+own_in [] own ds = ds
+own_in (count ∷ counts) [] ds = ds
+own_in (count ∷ counts) (o ∷ own) [] = []
+own_in (None ∷ counts) (o ∷ own) (d ∷ ds) = d ∷ own_in counts own ds
+own_in (Some n ∷ counts) (o ∷ own) (d ∷ ds) = o ∷ own_in counts own ds
 
-slice_get-set : {X : Type 0} (xs : List X) (i : ℕ) (x : X) → i < length xs → slice_get (set xs i x) i ≡ Some x
-slice_get-set [] i x lt = absurd (omega (arith, lt))
-slice_get-set (y ∷ ys) zero x lt = refl
-slice_get-set (y ∷ ys) (suc i) x lt = slice_get-set ys i x (omega (arith, lt))
+pub own_long : (counts : List (Option ℕ)) (own ds : List (Option Distinct)) → length (own_in counts own ds) ≡ length ds
+own_long [] own ds = refl
+own_long (None ∷ counts) [] ds = refl
+own_long (Some n ∷ counts) [] ds = refl
+own_long (None ∷ counts) (o ∷ own) [] = refl
+own_long (Some n ∷ counts) (o ∷ own) [] = refl
+own_long (None ∷ counts) (o ∷ own) (d ∷ ds) = ap (λ n. suc n) (own_long counts own ds)
+own_long (Some n ∷ counts) (o ∷ own) (d ∷ ds) = ap (λ n. suc n) (own_long counts own ds)
 
-slice_get-set_other : {X : Type 0} (xs : List X) (i j : ℕ) (x : X) → j ≢ i → slice_get (set xs i x) j ≡ slice_get xs j
-slice_get-set_other [] i j x other = refl
-slice_get-set_other (y ∷ ys) zero zero x other = absurd (other refl)
-slice_get-set_other (y ∷ ys) zero (suc j) x other = refl
-slice_get-set_other (y ∷ ys) (suc i) zero x other = refl
-slice_get-set_other (y ∷ ys) (suc i) (suc j) x other = slice_get-set_other ys i j x (λ e. other (ap suc e))
+pub own_kept : (counts : List (Option ℕ)) (own ds : List (Option Distinct)) (c : ℕ) → count_of counts c ≡ None → slice_get (own_in counts own ds) c ≡ slice_get ds c
+own_kept [] own ds c none = refl
+own_kept (None ∷ counts) [] ds c none = refl
+own_kept (Some n ∷ counts) [] ds c none = refl
+own_kept (None ∷ counts) (o ∷ own) [] c none = refl
+own_kept (Some n ∷ counts) (o ∷ own) [] c none = refl
+own_kept (None ∷ counts) (o ∷ own) (d ∷ ds) zero none = refl
+own_kept (Some n ∷ counts) (o ∷ own) (d ∷ ds) zero none = absurd cc
+own_kept (None ∷ counts) (o ∷ own) (d ∷ ds) (suc c) none = own_kept counts own ds c none
+own_kept (Some n ∷ counts) (o ∷ own) (d ∷ ds) (suc c) none = own_kept counts own ds c none
+
+pub own_there : (counts : List (Option ℕ)) (own ds : List (Option Distinct)) (c n : ℕ) → count_of counts c ≡ Some n → c < length own → c < length ds → slice_get (own_in counts own ds) c ≡ slice_get own c
+own_there [] own ds c n is lt few = absurd cc
+own_there (x ∷ counts) [] ds c n is lt few = absurd (omega (arith, lt))
+own_there (x ∷ counts) (o ∷ own) [] c n is lt few = absurd (omega (arith, few))
+own_there (None ∷ counts) (o ∷ own) (d ∷ ds) zero n is lt few = absurd cc
+own_there (Some m ∷ counts) (o ∷ own) (d ∷ ds) zero n is lt few = refl
+own_there (None ∷ counts) (o ∷ own) (d ∷ ds) (suc c) n is lt few = own_there counts own ds c n is (omega (arith, lt)) (omega (arith, few))
+own_there (Some m ∷ counts) (o ∷ own) (d ∷ ds) (suc c) n is lt few = own_there counts own ds c n is (omega (arith, lt)) (omega (arith, few))
+
+slot_same : {A : Type 0} (w : Option A) → IsSlotOf w w
+slot_same None = tt
+slot_same (Some d) = refl
+
+own_slots : (counts : List (Option ℕ)) (ws ds : List (Option Distinct)) → AllZip IsSlotOf ws ds → AllZip IsSlotOf ws (own_in counts ws ds)
+own_slots [] ws ds all = all
+own_slots (None ∷ counts) [] ds all = all
+own_slots (Some n ∷ counts) [] ds all = all
+own_slots (None ∷ counts) (w ∷ ws) [] all = absurd all
+own_slots (Some n ∷ counts) (w ∷ ws) [] all = absurd all
+own_slots (None ∷ counts) (w ∷ ws) (d ∷ ds) all = (all.0, own_slots counts ws ds all.1)
+own_slots (Some n ∷ counts) (w ∷ ws) (d ∷ ds) all = (slot_same w, own_slots counts ws ds all.1)
+
+slots_long : {A : Type 0} (ws ds : List (Option A)) → AllZip IsSlotOf ws ds → length ws ≡ length ds
+slots_long [] [] all = refl
+slots_long [] (d ∷ ds) all = absurd all
+slots_long (w ∷ ws) [] all = absurd all
+slots_long (w ∷ ws) (d ∷ ds) all = ap (λ n. suc n) (slots_long ws ds all.1)
+
+-- as many dictionaries as the head of a table has fields
+pub whole_long : (table : Table) (whole head : Seen) → IsPartOf whole head → IsHeadOf table head → length whole.dictionaries ≡ length table.schema.fields
+whole_long table whole head part is = slots_long whole.dictionaries head.dictionaries part.slots ∙ is.has.slots
 
 -- ---- the head of a table
 
--- a head with another dictionary is one of the table
-pub set_head : (table : Table) (head : Seen) (column : ℕ) (d : Distinct) → IsHeadOf table head → IsHeadOf table (with_dictionary column d head)
-set_head table head column d is = record {
+-- a head with as many other dictionaries is one of the table
+pub kept_head : (table : Table) (head : Seen) (ds : List (Option Distinct)) → length ds ≡ length head.dictionaries → IsHeadOf table head → IsHeadOf table (keeping ds head)
+kept_head table head ds long is = record {
   name = is.name;
   file = is.file;
   front = is.front;
   at_most = is.at_most;
   each = is.each;
   small = is.small;
-  has = record { rows_are = is.has.rows_are; sections_are = is.has.sections_are; slots = length-set head.dictionaries column (Some d) ∙ is.has.slots; tree_slots = is.has.tree_slots };
+  has = record { rows_are = is.has.rows_are; sections_are = is.has.sections_are; slots = long ∙ is.has.slots; tree_slots = is.has.tree_slots };
 }
 
--- with a dictionary of the whole head it is a part of that
-pub set_part : (whole head : Seen) (column : ℕ) (d : Distinct) → IsPartOf whole head → slice_get whole.dictionaries column ≡ Some (Some d) → IsPartOf whole (with_dictionary column d head)
-set_part whole head column d part at = record {
+-- with dictionaries of the whole head it is a part of that
+pub own_part : (whole head : Seen) (counts : List (Option ℕ)) → IsPartOf whole head → IsPartOf whole (keeping (own_in counts whole.dictionaries head.dictionaries) head)
+own_part whole head counts part = record {
   rows_same = part.rows_same;
   sections_same = part.sections_same;
   bounds_same = part.bounds_same;
-  slots = slot_set whole.dictionaries head.dictionaries column d part.slots at;
+  slots = own_slots counts whole.dictionaries head.dictionaries part.slots;
   tree_slots = part.tree_slots;
 }
 
--- ---- the values
+-- ---- lists
 
-module _ (table : Table) (head : Seen) (column : ℕ) (is : IsHeadOf table head) (lt : column < length table.schema.fields) (d : Distinct) where
-  pub set_there : slice_get (with_dictionary column d head).dictionaries column ≡ Some (Some d)
-  set_there = slice_get-set head.dictionaries column (Some d) (let slots = is.has.slots in omega (arith, lt, slots))
-
-  pub set_values : values_in (with_dictionary column d head) column ≡ d.values
-  set_values = ap values_of set_there
-
-  pub set_loaded : IsLoaded (with_dictionary column d head) column
-  set_loaded = (d, set_there)
-
-pub other_values : (head : Seen) (column : ℕ) (d : Distinct) (c : ℕ) → c ≢ column → values_in (with_dictionary column d head) c ≡ values_in head c
-other_values head column d c apart = ap values_of (slice_get-set_other head.dictionaries column c (Some d) apart)
-
-pub other_loaded : (head : Seen) (column : ℕ) (d : Distinct) (c : ℕ) → c ≢ column → IsLoaded head c → IsLoaded (with_dictionary column d head) c
-other_loaded head column d c apart loaded = (loaded.0, slice_get-set_other head.dictionaries column c (Some d) apart ∙ loaded.1)
-
--- with dictionaries of as many values a head has as many in each column
-pub counts_alike : (table : Table) (head : Seen) (column : ℕ) (c d : Distinct) → IsHeadOf table head → column < length table.schema.fields → length c.values ≡ length d.values → (k : ℕ) → count_in (with_dictionary column c head) k ≡ count_in (with_dictionary column d head) k
-counts_alike table head column c d is lt same k = go (column == k) refl
-  where
-    go : (b : Bool) → column == k ≡ b → count_in (with_dictionary column c head) k ≡ count_in (with_dictionary column d head) k
-    go true e = subst (λ k. count_in (with_dictionary column c head) k ≡ count_in (with_dictionary column d head) k) (eqb-true column k e) (ap length (set_values table head column is lt c) ∙ same ∙ sym (ap length (set_values table head column is lt d)))
-    go false e =
-        let apart : k ≢ column = (λ is. false≢true (sym e ∙ eq-eqb column k (sym is))) in
-        ap length (other_values head column c k apart ∙ sym (other_values head column d k apart))
+pub lists_same : {X : Type 0} (xs ys : List X) → length xs ≡ length ys → ((k : ℕ) → k < length xs → slice_get xs k ≡ slice_get ys k) → xs ≡ ys
+lists_same [] [] long each = refl
+lists_same [] (y ∷ ys) long each = absurd (omega (arith, long))
+lists_same (x ∷ xs) [] long each = absurd (omega (arith, long))
+lists_same (x ∷ xs) (y ∷ ys) long each =
+    let first = each 0 (omega arith) in
+    let here : x ≡ y = cc in
+    let more = lists_same xs ys (omega (arith, long)) (λ k lt. each (suc k) (omega (arith, lt))) in
+    (λ i. here i ∷ more i)

@@ -14,10 +14,12 @@ pub mod OneReads
 pub mod PlanLemmas
 mod EmptyLemmas
 mod AfterHead
-mod IdsFound
 mod IdsHeads
+mod IdsKept
+mod IdsConjuncts
+mod IdsFound
+mod IdsGiven
 mod IdsReads
 mod IdsAlike
 mod IdsRefused
 mod IdsLemmas
-mod IdsTest

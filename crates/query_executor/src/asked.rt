@@ -1,30 +1,23 @@
-//! A query that tests a column, asked by the ids of the values that satisfy the test.
-ghost use Rattle.std.specs.Prelude.{◌≡◌, ℕ, IfOk, map, pos};
-ghost use Rattle.values.specs.declared.value.Value.TheVariants as value;
-ghost use Rattle.values.specs.Tests.{holds};
-ghost use Rattle.value_ids.specs.Ids.{has_id};
-ghost use Rattle.query_executor.specs.ByIds.{IsByIds};
+//! A query that tests columns, asked by the ids of the values that satisfy its tests.
+ghost use Rattle.std.specs.Prelude.{◌≡◌, ◌≤◌, ◌<◌, ℕ, IfOk, IfSome, OnOk, Some, length};
+ghost use Rattle.value_ids.specs.Dictionary.{most_values};
+ghost use Rattle.segment_opening.specs.Found.{count_of, with_counts};
+ghost use Rattle.query_executor.specs.ByIds.{AsksBy, kept_if};
 
 use outside::Seq;
-use segment_plan::are_consecutive;
+use segment_head::Head;
 use std::alloc::Global;
 use table_schema::{BoundQuery, Conjunct};
-use value_ids::IdSet;
-use values::{NoMemory, Test, Value};
+use values::NoMemory;
 
-/// The query that asks for the groups and aggregates of another, of the rows with one of these ids
-/// in a column.
+/// The query that asks for the groups and aggregates of another, of the rows of these conjuncts.
 pub(crate) fn asked_by_ids(
     alloc: Global,
     query: &BoundQuery,
-    column: u16,
-    ids: &IdSet,
+    conjuncts: Seq<Conjunct>,
 ) -> Result<BoundQuery, NoMemory>
-    ensures { IfOk result (λ asked. IsByIds query.now asked column ids.now) }
+    ensures { IfOk result (λ asked. AsksBy query.now asked conjuncts) }
 {
-    let test = test_of_ids(alloc, ids)?;
-    let mut conjuncts = Seq::with_capacity(alloc, 1)?;
-    conjuncts.push(Conjunct::One(column, test))?;
     Ok(BoundQuery {
         use_tree: false,
         conjuncts,
@@ -39,34 +32,38 @@ pub(crate) fn asked_by_ids(
     })
 }
 
-// The test that a number is one of these ids: one from the first to the last, where they follow one
-// another.
-fn test_of_ids(alloc: Global, ids: &IdSet) -> Result<Test, NoMemory>
-    ensures { IfOk result (λ test. (id : ℕ) → holds (value.Whole (pos id)) test
-        ≡ has_id ids.now id) }
+/// Keeps so many ids in place of the values of each column that has a count.
+pub(crate) fn keep_counted(
+    alloc: Global,
+    counts: &[Option<u32>],
+    head: &mut Head,
+) -> Result<(), NoMemory>
+    requires each { length counts.now ≡ length head.old.dictionaries }
+    requires at_most { length counts.now ≤ 65535 }
+    requires few { (column count : ℕ) → count_of counts.now column ≡ Some count →
+        count ≤ most_values }
+    ensures { OnOk result (head.new ≡ with_counts counts.now head.old) }
 {
-    if are_consecutive(ids) {
-        let low = as_value(*ids.at(0));
-        let high = as_value(*ids.at(ids.len() as usize - 1));
-        return Ok(Test::Between(low, high, false));
+    'columns: for column in 0..counts.len() {
+        keep_at(alloc, counts, column as u16, head)?;
     }
-    Ok(Test::OneOf(values_of(alloc, ids.as_slice())?, false))
+    Ok(())
 }
 
-// The ids as values.
-fn values_of(alloc: Global, ids: &[u32]) -> Result<Seq<Value>, NoMemory>
-    ensures { IfOk result (λ values. values ≡ map (λ id. value.Whole (pos id)) ids.now) }
+// Keeps so many ids in place of the values of a column, if it has a count.
+fn keep_at(
+    alloc: Global,
+    counts: &[Option<u32>],
+    column: u16,
+    head: &mut Head,
+) -> Result<(), NoMemory>
+    requires column { column < length counts.now }
+    requires each { length counts.now ≡ length head.old.dictionaries }
+    requires few { IfSome (count_of counts.now column) (λ n. n ≤ most_values) }
+    ensures { OnOk result (head.new ≡ kept_if column (count_of counts.now column) head.old) }
 {
-    let mut values = Seq::with_capacity(alloc, ids.len())?;
-    'ids: for id in ids {
-        values.push(as_value(*id))?;
+    match counts[column as usize] {
+        Some(count) => head.keep_ids(alloc, column, count),
+        None => Ok(()),
     }
-    Ok(values)
-}
-
-// An id as a value.
-fn as_value(id: u32) -> Value
-    ensures { result ≡ value.Whole (pos id) }
-{
-    Value::Whole(i64::from(id))
 }

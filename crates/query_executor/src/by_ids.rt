@@ -1,4 +1,4 @@
-//! The rows of a segment are added by the ids of a column that a query tests alone.
+//! The rows of a segment are added by ids of columns that a query only tests.
 ghost use Rattle.group_table.specs.Pooled.{IsTableIn, StaysIn, in_pool};
 ghost use Rattle.std.specs.Prelude.{IfOk};
 ghost use Rattle.outside.specs.Seen.{seen};
@@ -6,7 +6,7 @@ ghost use Rattle.segment_reads.specs.Looked.{IsDoneIn};
 ghost use Rattle.query_executor.specs.ByIds.{CanAskByIds};
 ghost use Rattle.query_executor.specs.Passes.{AddsSegment, HasRoomFor};
 
-use crate::asked::asked_by_ids;
+use crate::asked::{asked_by_ids, keep_counted};
 use crate::laws::ids_law;
 use crate::scanned::Scanned;
 use group_table::{GroupTable, SlotPool};
@@ -26,13 +26,13 @@ pub(crate) struct Asked<'a> {
     pub(crate) query: &'a BoundQuery,
 }
 
-/// Adds the rows of a segment that have one of the ids that were found in the column that the query
-/// tests. The values of that column are not read.
+/// Adds the rows of a segment that have ids that were found in the columns that the query tests.
+/// The values of these columns are not read.
 pub(crate) fn add_by_ids<S: Shelf>(
     rooms: &mut IdRooms,
     shelf: &mut S,
     asked: &Asked<'_>,
-    found: &Found,
+    found: Found,
     head: &mut Head,
     groups: &mut GroupTable,
     pool: &mut SlotPool,
@@ -40,8 +40,7 @@ pub(crate) fn add_by_ids<S: Shelf>(
     requires pooled { IsTableIn groups.old pool.old }
     requires room { HasRoomFor asked.now.query.now (in_pool groups.old pool.old) }
     requires can { CanAskByIds asked.now.query.now asked.now.table.now (S.held shelf.old)
-        asked.now.segment.now head.old found.now.column found.now.matched.count
-        found.now.matched.ids }
+        asked.now.segment.now head.old found.conjuncts found.counts.items }
     ensures adds { AddsSegment asked.now.query.now asked.now.table.now asked.now.segment.now
         (in_pool groups.old pool.old) (in_pool groups.new pool.new)
         (seen S.Shelf shelf.old) (seen S.Shelf shelf.new) result }
@@ -55,8 +54,8 @@ pub(crate) fn add_by_ids<S: Shelf>(
     index_law();
     ids_law();
     let alloc = rooms.alloc();
-    head.keep_ids(alloc, found.column, found.matched.count)?;
-    let by_ids = asked_by_ids(alloc, asked.query, found.column, &found.matched.ids)?;
+    keep_counted(alloc, found.counts.as_slice(), head)?;
+    let by_ids = asked_by_ids(alloc, asked.query, found.conjuncts)?;
     let conjuncts = by_ids.conjuncts.as_slice();
     let choices = choices(alloc, conjuncts, &asked.table.settings, head)?;
     let plan = ScanPlan { choices };

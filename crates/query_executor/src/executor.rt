@@ -16,6 +16,7 @@ use crate::counting::count_distinct;
 use crate::pass::{Pass, pass_over};
 use outside::{Bytes, Name, Seq, Shelf};
 use segment_head::{Stored, live_segments};
+use segment_scan::IdRooms;
 use sql_reply::{MOST_GROUPS, SqlFault, answer, bound_query};
 use star_answer::docs_bound_law;
 use std::alloc::{AllocError, Global};
@@ -108,6 +109,8 @@ fn reply_to_bound<S: Shelf>(
         Ok(()) => {}
         Err(fault) => return Err(fault),
     }
+    // The room for ids is let go before others take theirs and the reply is made.
+    pass.rooms = IdRooms::new(alloc);
     match count_distinct(alloc, shelf, table, stored, query, &mut pass) {
         Ok(()) => {}
         Err(fault) => return Err(fault),

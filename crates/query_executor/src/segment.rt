@@ -20,8 +20,8 @@ use table_schema::{BoundQuery, Table};
 
 /// Adds the rows of a segment that satisfy the filter of a query to its groups, by a star-tree
 /// where one serves the query. Of a segment that its bounds exclude no more than the front and the
-/// bounds is read. Where no value of a large dictionary satisfies a conjunct, none is loaded; of a
-/// column that is tested alone the values are not read.
+/// bounds is read. Where no value of a large dictionary satisfies a conjunct, none is loaded; of
+/// columns that are only tested the values are not read.
 pub(crate) fn add_segment<S: Shelf>(
     rooms: &mut IdRooms,
     shelf: &mut S,
@@ -68,7 +68,7 @@ pub(crate) fn add_segment<S: Shelf>(
                 segment,
                 query,
             };
-            add_by_ids(rooms, shelf, &asked, &found, &mut head, groups, pool)
+            add_by_ids(rooms, shelf, &asked, found, &mut head, groups, pool)
         }
     }
 }

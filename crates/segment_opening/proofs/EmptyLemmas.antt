@@ -80,7 +80,7 @@ module _ (column : ℕ) (test : Test) where
       go later true is e = absurd cc
       go later false is e = ap (λ b. cond b (v ∷ filter p vs) (filter p vs)) (none_passes conjuncts k at v is) ∙ later e
 
-  on_filtered : (conjuncts : List Conjunct) (k : ℕ) → slice_get conjuncts k ≡ Some (One column test) → is_filtered conjuncts column ≡ true
+  pub on_filtered : (conjuncts : List Conjunct) (k : ℕ) → slice_get conjuncts k ≡ Some (One column test) → is_filtered conjuncts column ≡ true
   on_filtered [] k at = absurd cc
   on_filtered (c ∷ cs) zero at =
       let is : c ≡ One column test = cc in
@@ -98,7 +98,7 @@ module _ (column : ℕ) (test : Test) where
       and_from (is_filtered conjuncts column) (matched conjuncts column (values_of (slice_get whole.dictionaries column)) == 0) (on_filtered conjuncts k at)
       (eq-eqb (matched conjuncts column (values_of (slice_get whole.dictionaries column))) 0 count)
 
-some_column : (p : ℕ → Bool) (count column : ℕ) → column < count → p column ≡ true → list_any p (range_with_len 0 count) ≡ true
+pub some_column : (p : ℕ → Bool) (count column : ℕ) → column < count → p column ≡ true → list_any p (range_with_len 0 count) ≡ true
 some_column p count column lt is =
     let plain : 0 + column ≡ column = omega arith in
     let at : get_or (range_with_len 0 count) column 0 ≡ column = get_or-range_with_len 0 count column 0 lt ∙ plain in

@@ -19,7 +19,7 @@ use values::{CompareOp, Test};
 const SMALL: u64 = 65536;
 
 /// Of a test with more bounds than this all values are looked at.
-const FEW_BOUNDS: usize = 16;
+pub(crate) const FEW_BOUNDS: usize = 16;
 
 /// Whether some conjunct is known to match no value of its column. Bounds are cut where large
 /// dictionaries lie, and none is loaded. Where a dictionary is bad, that is not known.
@@ -83,8 +83,8 @@ pub(crate) fn is_large(head: &Head, column: u16) -> bool {
     }
 }
 
-/// Whether a test names a few values, or a range of them, that may be between others.
-pub(crate) fn names_few(test: &Test) -> bool {
+// Whether a test names a few values, or a range of them, that may be between others.
+fn names_few(test: &Test) -> bool {
     match test {
         Test::Compare(CompareOp::Equal, _) => true,
         Test::OneOf(members, negated) => !*negated && members.len() <= FEW_BOUNDS,

@@ -1,35 +1,28 @@
-//! A column that a query tests alone is looked up where its dictionary lies.
-ghost use Rattle.std.specs.Prelude.{◌≡◌, ◌≤◌, ◌<◌, ◌∷◌, [], false, true, IfOk, IfSome, OnOk, length};
+//! Columns that a query only tests are looked up where their dictionaries lie.
+ghost use Rattle.std.specs.Prelude.{◌≡◌, ◌≤◌, ◌<◌, ◌++◌, ◌∷◌, [], false, Some, IfOk, IfSome, OnOk, get_or, length, slice_get};
 ghost use Rattle.outside.specs.Seen.{seen};
-ghost use Rattle.values.specs.declared.test.Test as tests;
 ghost use Rattle.value_ids.specs.Dictionary.{most_values};
-ghost use Rattle.table_schema.specs.declared.query.Conjunct.TheVariants.{One};
 ghost use Rattle.segment_head.specs.Calls.{IsColumnOf};
 ghost use Rattle.segment_head.specs.Heads.{OfWhole};
 ghost use Rattle.segment_head.specs.Lookups.{OfColumn};
-ghost use Rattle.segment_plan.specs.Named.{AreNamedLoaded, MarksColumns, query_names};
+ghost use Rattle.segment_plan.specs.Named.{AreNamedLoaded};
 ghost use Rattle.segment_opening.specs.Calls.{IsQueryOnHead, LoadsMore, LooksUp};
-ghost use Rattle.segment_opening.specs.Found.{IsFound, IsFoundIn, IsMet, unfiltered};
+ghost use Rattle.segment_opening.specs.Found.{AreFound, IsFoundFor, IsFoundIn, TellsOthers, unfiltered};
 
-use crate::emptied::{is_large, names_few};
+use crate::emptied::is_large;
 use crate::loading::load_marked;
+use crate::tests::{has_few_bounds, is_met};
 use outside::Shelf;
 use segment_file::HeadFault;
 use segment_head::{EngineFault, Head, Matched, NoMemory};
 use segment_plan::{IndexChoice, named_columns};
 use std::alloc::Global;
 use table_schema::{BoundQuery, Conjunct, Table};
-use values::{Test, Value, holds_value};
+use values::Test;
 
-/// What was found in the dictionary of a column that a query tests alone.
-#[derive(Drop)]
-pub struct Found {
-    pub column: u16,
-    pub matched: Matched,
-}
-
-/// Looks up the column of a query that tests one column, which has a large dictionary, and asks no
-/// more of it; unless a star-tree answers. Bounds are cut where the dictionary lies.
+/// Looks up the columns of the conjuncts of a query, where each names one column, of which nothing
+/// else is asked, and some of these have large dictionaries; unless a star-tree answers. Bounds are
+/// cut where the dictionaries lie.
 pub(crate) fn look_up<S: Shelf>(
     alloc: Global,
     shelf: &mut S,
@@ -37,36 +30,131 @@ pub(crate) fn look_up<S: Shelf>(
     query: &BoundQuery,
     by_tree: bool,
     head: &Head,
-) -> Result<Option<Found>, EngineFault>
+) -> Result<Option<Vec<Matched>>, EngineFault>
     requires { IsQueryOnHead query.now table.now head.now }
     ensures untreed { IfOk result (λ found. IfSome found (λ f. by_tree ≡ false)) }
     ensures found { IfOk result (λ found. IfSome found (λ f.
-        IsFound query.now table.now (S.held shelf.old) head.now f.column f.matched)) }
+        AreFound query.now table.now (S.held shelf.old) head.now f.items)) }
+    ensures looks { LooksUp table.now result head.now
+        (seen S.Shelf shelf.old) (seen S.Shelf shelf.new) }
+{
+    if by_tree || !are_worth(query.conjuncts.as_slice(), head) {
+        return Ok(None);
+    }
+    let others = other_columns(alloc, query, table.schema.fields.len())?;
+    if some_marked(query.conjuncts.as_slice(), others.as_slice()) {
+        return Ok(None);
+    }
+    find_each(alloc, shelf, table, head, query, others.as_slice())
+}
+
+// Whether each conjunct names one column and has few bounds, and some column is large.
+fn are_worth(conjuncts: &[Conjunct], head: &Head) -> bool {
+    let mut large = false;
+    for conjunct in conjuncts {
+        match conjunct {
+            Conjunct::One(column, test) => {
+                if !has_few_bounds(test) {
+                    return false;
+                }
+                large = large || is_large(head, *column);
+            }
+            Conjunct::Many(_) => return false,
+        }
+    }
+    large
+}
+
+// Whether a conjunct is on a column that is marked, so that nothing is looked up in vain.
+fn some_marked(conjuncts: &[Conjunct], marks: &[bool]) -> bool {
+    for conjunct in conjuncts {
+        if let Conjunct::One(column, _) = conjunct {
+            if let Some(true) = marks.get(*column as usize) {
+                return true;
+            }
+        }
+    }
+    false
+}
+
+// What is found for each conjunct of a query, unless a column is among others that are marked, or a
+// dictionary is bad.
+fn find_each<S: Shelf>(
+    alloc: Global,
+    shelf: &mut S,
+    table: &Table,
+    head: &Head,
+    query: &BoundQuery,
+    others: &[bool],
+) -> Result<Option<Vec<Matched>>, EngineFault>
+    requires asked { IsQueryOnHead query.now table.now head.now }
+    requires others { TellsOthers query.now (length table.now.schema.fields) others.now }
+    ensures found { IfOk result (λ found. IfSome found (λ f.
+        AreFound query.now table.now (S.held shelf.old) head.now f.items)) }
     ensures looks { LooksUp table.now result head.now
         (seen S.Shelf shelf.old) (seen S.Shelf shelf.new) }
 {
     let conjuncts = query.conjuncts.as_slice();
-    if by_tree || conjuncts.len() != 1 {
-        return Ok(None);
+    let mut found = Vec::with_capacity(alloc, conjuncts.len())?;
+    'conjuncts: for at in 0..conjuncts.len() {
+        match find_for(alloc, shelf, table, head, query, others, at) {
+            Ok(Some(matched)) => match push(&mut found, matched) {
+                Ok(()) => {}
+                Err(_) => return Err(EngineFault::NoMemory),
+            },
+            Ok(None) => return Ok(None),
+            Err(fault) => return Err(fault),
+        }
     }
-    let Conjunct::One(column, test) = &conjuncts[0] else {
+    Ok(Some(found))
+}
+
+// Adds what was found.
+fn push(found: &mut Vec<Matched>, matched: Matched) -> Result<(), NoMemory>
+    ensures { OnOk result (found.new.items ≡ found.old.items ++ matched ∷ []) }
+{
+    found.push(matched)?;
+    Ok(())
+}
+
+// What is found for one conjunct of the query.
+fn find_for<S: Shelf>(
+    alloc: Global,
+    shelf: &mut S,
+    table: &Table,
+    head: &Head,
+    query: &BoundQuery,
+    others: &[bool],
+    at: usize,
+) -> Result<Option<Matched>, EngineFault>
+    requires asked { IsQueryOnHead query.now table.now head.now }
+    requires others { TellsOthers query.now (length table.now.schema.fields) others.now }
+    requires at { at < length query.now.conjuncts }
+    ensures found { IfOk result (λ found. IfSome found (λ matched. (conjunct : _) →
+        slice_get query.now.conjuncts at ≡ Some conjunct →
+        IsFoundFor query.now table.now (S.held shelf.old) head.now conjunct matched)) }
+    ensures looks { LooksUp table.now result head.now
+        (seen S.Shelf shelf.old) (seen S.Shelf shelf.new) }
+{
+    let Conjunct::One(column, test) = query.conjuncts.at(at) else {
         return Ok(None);
     };
-    if !is_large(head, *column) || !names_few(test) || !is_met(test) {
+    if is_marked(others, *column) {
         return Ok(None);
     }
-    let others = other_columns(alloc, query, table.schema.fields.len())?;
-    if others[*column as usize] {
+    let met = is_met(alloc, test)?;
+    if !met {
         return Ok(None);
     }
-    match find(alloc, shelf, table, head, *column, test) {
-        Ok(Some(matched)) => Ok(Some(Found {
-            column: *column,
-            matched,
-        })),
-        Ok(None) => Ok(None),
-        Err(fault) => Err(fault),
-    }
+    find(alloc, shelf, table, head, *column, test)
+}
+
+// Whether a column is marked.
+fn is_marked(marks: &[bool], column: u16) -> bool
+    requires { column < length marks.now }
+    ensures { result ≡ get_or marks.now column false }
+{
+    marks[column as usize]
 }
 
 /// How many values a column has, and the ids of those that satisfy a test, unless its dictionary is
@@ -94,8 +182,7 @@ pub(crate) fn find<S: Shelf>(
     }
 }
 
-/// Loads the dictionaries of the group columns and of those that aggregates name, where a query has
-/// one conjunct, which names one column.
+/// Loads the dictionaries of the group columns and of those that aggregates name.
 pub(crate) fn load_others<S: Shelf>(
     alloc: Global,
     shelf: &mut S,
@@ -104,8 +191,6 @@ pub(crate) fn load_others<S: Shelf>(
     head: &mut Head,
 ) -> Result<(), EngineFault>
     requires asked { IsQueryOnHead query.now table.now head.old }
-    requires one { (column : _) × (test : tests.Test) × (query.now.conjuncts
-        ≡ One column test ∷ []) }
     ensures loads { LoadsMore table.now result head.old head.new
         (seen S.Shelf shelf.old) (seen S.Shelf shelf.new) }
     ensures others { OnOk result (AreNamedLoaded (unfiltered query.now) head.new) }
@@ -114,33 +199,12 @@ pub(crate) fn load_others<S: Shelf>(
     load_marked(alloc, shelf, table, others.as_slice(), head)
 }
 
-// A mark for each of so many columns, whether the query names it in a group column or an aggregate.
+// A mark for each of so many columns, of those that the query names in group columns and
+// aggregates.
 fn other_columns(alloc: Global, query: &BoundQuery, count: usize) -> Result<Vec<bool>, NoMemory>
     requires at_most { count ≤ 65535 }
-    requires one { (column : _) × (test : tests.Test) × (query.now.conjuncts
-        ≡ One column test ∷ []) }
-    ensures { MarksColumns count result (λ marks. marks.items)
-        (query_names (unfiltered query.now)) }
+    ensures { IfOk result (λ marks. TellsOthers query.now count marks.items) }
 {
-    named_columns(alloc, query, &[IndexChoice::Sorted], count)
-}
-
-// Whether the first value that a test names satisfies it, so that some value does.
-fn is_met(test: &Test) -> bool
-    ensures { result ≡ true → IsMet test.now }
-{
-    match first_named(test) {
-        Some(value) => holds_value(test, value),
-        None => false,
-    }
-}
-
-// The first value that a test names by itself.
-fn first_named(test: &Test) -> Option<&Value> {
-    match test {
-        Test::Compare(_, bound) => Some(bound),
-        Test::OneOf(members, _) => members.as_slice().first(),
-        Test::Between(low, _, _) => Some(low),
-        _ => None,
-    }
+    let choices = vec![in alloc; IndexChoice::Sorted; query.conjuncts.len()]?;
+    named_columns(alloc, query, choices.as_slice(), count)
 }

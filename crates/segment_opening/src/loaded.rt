@@ -1,6 +1,6 @@
 //! What was loaded of a segment for its answer.
 
-use crate::found::Found;
+use crate::asked::Found;
 
 /// What was loaded of a segment for its answer.
 #[derive(Drop)]
@@ -9,6 +9,6 @@ pub enum Loaded {
     Emptied,
     /// What the answer wants.
     Wanted,
-    /// What it wants but for the column that the query tests alone, of which this was found.
+    /// What it wants but for columns that the query only tests, of which this was found.
     But(Found),
 }

@@ -6,23 +6,24 @@ ghost use Rattle.segment_plan.specs.Matched.{AreLoaded};
 ghost use Rattle.table_schema.specs.ValidTable.{IsValidTable};
 ghost use Rattle.segment_opening.specs.Calls.{HasWanted, IsQueryOnHead, LoadsMore};
 ghost use Rattle.segment_opening.specs.Emptied.{IsEmptied};
-ghost use Rattle.segment_opening.specs.Found.{IsFound, IsFoundAlone};
+ghost use Rattle.segment_opening.specs.Found.{AreFound, IsFoundBeside};
 ghost use Rattle.segment_opening.specs.Wanted.{AreFactorsLoaded};
-ghost use Rattle.segment_opening.specs.declared.found.Found as spec;
+ghost use Rattle.segment_opening.specs.declared.asked.Found as spec;
 ghost use Rattle.segment_opening.specs.declared.loaded.Loaded.TheVariants as kind;
 
+use crate::asked::{asked_by, some_shares_none};
 use crate::emptied::is_emptied;
-use crate::found::{Found, load_others, look_up};
+use crate::found::{load_others, look_up};
 use crate::loaded::Loaded;
 use crate::small::is_emptied_by_small;
 use crate::wanted::{detailed_columns, wanted_columns};
 use outside::Shelf;
-use segment_head::{EngineFault, Head, engine_fault};
+use segment_head::{EngineFault, Head, Matched, engine_fault};
 use std::alloc::Global;
 use table_schema::{BoundQuery, Table};
 
-/// Loads the dictionaries that the answer of a segment wants, but for that of a column that can be
-/// looked up where it lies, unless a conjunct is known to match no value of its column: then no
+/// Loads the dictionaries that the answer of a segment wants, but for those of columns that can be
+/// looked up where they lie, unless a conjunct is known to match no value of its column: then no
 /// large one is loaded.
 pub fn load_or_look_up<S: Shelf>(
     alloc: Global,
@@ -40,11 +41,11 @@ pub fn load_or_look_up<S: Shelf>(
     ensures wanted { IfOk result (λ loaded. loaded ≡ kind.Wanted →
         HasWanted query.now by_tree head.new) }
     ensures found { IfOk result (λ loaded. (found : spec.Found) → loaded ≡ kind.But found →
-        IsFoundAlone query.now table.now (S.held shelf.old) by_tree head.old head.new
-        found.column found.matched) }
+        IsFoundBeside query.now table.now (S.held shelf.old) by_tree head.old head.new
+        found.conjuncts found.counts.items) }
 {
     match look_up(alloc, shelf, table, query, by_tree, head) {
-        Ok(Some(found)) => load_but(alloc, shelf, table, query, found, head),
+        Ok(Some(found)) => load_but(alloc, shelf, table, query, found.as_slice(), head),
         Ok(None) => match load_unless_emptied(alloc, shelf, table, query, by_tree, head) {
             Ok(true) => Ok(Loaded::Wanted),
             Ok(false) => Ok(Loaded::Emptied),
@@ -153,32 +154,34 @@ fn load_wanted<S: Shelf>(
     load_marked(alloc, shelf, table, wanted.as_slice(), head)
 }
 
-// Loads what the answer wants but for the column of which this was found, if ids were found.
+// Loads what the answer wants but for the columns that were looked up, if some value of each of
+// these satisfies the conjuncts on it.
 fn load_but<S: Shelf>(
     alloc: Global,
     shelf: &mut S,
     table: &Table,
     query: &BoundQuery,
-    found: Found,
+    found: &[Matched],
     head: &mut Head,
 ) -> Result<Loaded, EngineFault>
     requires asked { IsQueryOnHead query.now table.now head.old }
-    requires found { IsFound query.now table.now (S.held shelf.old) head.old found.column
-        found.matched }
+    requires found { AreFound query.now table.now (S.held shelf.old) head.old found.now }
     ensures loads { LoadsMore table.now result head.old head.new
         (seen S.Shelf shelf.old) (seen S.Shelf shelf.new) }
     ensures emptied { IfOk result (λ loaded. loaded ≡ kind.Emptied →
         IsEmptied query.now table.now (S.held shelf.old) head.old) }
-    ensures partly { IfOk result (λ loaded. loaded ≢ kind.Wanted) }
+    ensures never { IfOk result (λ loaded. loaded ≢ kind.Wanted) }
     ensures found { IfOk result (λ loaded. (f : spec.Found) → loaded ≡ kind.But f →
-        IsFoundAlone query.now table.now (S.held shelf.old) false head.old head.new
-        f.column f.matched) }
+        IsFoundBeside query.now table.now (S.held shelf.old) false head.old head.new f.conjuncts
+        f.counts.items) }
 {
-    if found.matched.ids.is_empty() {
+    let conjuncts = query.conjuncts.as_slice();
+    if some_shares_none(conjuncts, found) {
         return Ok(Loaded::Emptied);
     }
+    let asked = asked_by(alloc, conjuncts, found, table.schema.fields.len())?;
     match load_others(alloc, shelf, table, query, head) {
-        Ok(()) => Ok(Loaded::But(found)),
+        Ok(()) => Ok(Loaded::But(asked)),
         Err(fault) => Err(fault),
     }
 }

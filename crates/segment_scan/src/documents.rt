@@ -17,19 +17,18 @@ use crate::answered::Answered;
 use crate::scan::coded_columns;
 use coded_columns::SegmentColumns;
 use coded_scan::add_coded;
-use column_reader::pick_columns;
+use column_reader::{IdRooms, pick_columns};
 use doc_lists::DocList;
 use group_table::{GroupTable, SlotPool, TableFault};
 use outside::Shelf;
 use segment_head::EngineFault;
 use segment_plan::IndexChoice;
-use std::alloc::Global;
 
 /// Adds those of the rows of documents that satisfy the conjuncts that are not served, by the
 /// columns that are named. Of the forward section of each the ids of the documents are read, and
 /// nothing else.
 pub(crate) fn scan_documents<S: Shelf>(
-    alloc: Global,
+    rooms: &mut IdRooms,
     shelf: &mut S,
     answered: &Answered<'_>,
     named: &[bool],
@@ -60,6 +59,7 @@ pub(crate) fn scan_documents<S: Shelf>(
         (seen S.Shelf shelf.old) (seen S.Shelf shelf.new) }
     ensures stays { StaysIn groups.old pool.old groups.new pool.new }
 {
+    let alloc = rooms.alloc();
     let head = answered.head;
     let runs = docs.runs();
     let ids = match pick_columns(alloc, shelf, head, named, runs, docs.len()) {
@@ -72,7 +72,15 @@ pub(crate) fn scan_documents<S: Shelf>(
         columns: columns.as_slice(),
         count: docs.len(),
     };
-    match add_coded(alloc, answered.query, choices, &segment, groups, pool) {
+    match add_coded(
+        alloc,
+        answered.query,
+        choices,
+        &segment,
+        &mut rooms.places,
+        groups,
+        pool,
+    ) {
         Ok(()) => Ok(()),
         Err(TableFault::TooManyGroups) => Err(EngineFault::TooManyGroups),
         Err(TableFault::NoMemory) => Err(EngineFault::NoMemory),

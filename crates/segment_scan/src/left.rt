@@ -19,19 +19,19 @@ ghost use Rattle.segment_head.specs.declared.fault.EngineFault.TheVariants.{NotA
 use crate::answered::Answered;
 use crate::documents::scan_documents;
 use crate::laws::{image_law, index_law};
+use column_reader::IdRooms;
 use doc_lists::{DocList, DocSet, parted};
 use group_table::{GroupTable, SlotPool};
 use outside::Shelf;
 use segment_head::EngineFault;
 use segment_plan::{IndexChoice, named_columns, sure_choices};
-use std::alloc::Global;
 
 /// Adds those of the rows that the indexes leave that satisfy the other conjuncts to the groups of
 /// a query, and answers how many rows the indexes leave. Of those that are not sure the ids are
 /// read of each column that is named beside the served conjuncts, and of the others those of each
 /// that is named beside the conjuncts of range indexes too, and nothing else.
 pub(crate) fn scan_left<S: Shelf>(
-    alloc: Global,
+    rooms: &mut IdRooms,
     shelf: &mut S,
     answered: &Answered<'_>,
     choices: &[IndexChoice],
@@ -66,14 +66,15 @@ pub(crate) fn scan_left<S: Shelf>(
 {
     image_law();
     index_law();
+    let alloc = rooms.alloc();
     let (check, sure) = parted(alloc, docs, unsure)?;
     let served = sure_choices(alloc, choices)?;
     let served = served.as_slice();
-    match scan_part(alloc, shelf, answered, choices, &check, groups, pool) {
+    match scan_part(rooms, shelf, answered, choices, &check, groups, pool) {
         Ok(()) => {}
         Err(fault) => return Err(fault),
     }
-    match scan_part(alloc, shelf, answered, served, &sure, groups, pool) {
+    match scan_part(rooms, shelf, answered, served, &sure, groups, pool) {
         Ok(()) => Ok((check.len() + sure.len()) as u32),
         Err(fault) => Err(fault),
     }
@@ -83,7 +84,7 @@ pub(crate) fn scan_left<S: Shelf>(
 // of a query. Of each column that is named beside the served ones the ids of these documents are
 // read, and nothing else.
 fn scan_part<S: Shelf>(
-    alloc: Global,
+    rooms: &mut IdRooms,
     shelf: &mut S,
     answered: &Answered<'_>,
     choices: &[IndexChoice],
@@ -118,11 +119,11 @@ fn scan_part<S: Shelf>(
 {
     image_law();
     let named = named_columns(
-        alloc,
+        rooms.alloc(),
         answered.query,
         choices,
         answered.table.schema.fields.len(),
     )?;
     let named = named.as_slice();
-    scan_documents(alloc, shelf, answered, named, choices, docs, groups, pool)
+    scan_documents(rooms, shelf, answered, named, choices, docs, groups, pool)
 }

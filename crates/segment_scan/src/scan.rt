@@ -86,7 +86,7 @@ pub(crate) fn scan_columns<S: Shelf>(
         columns: columns.as_slice(),
         count: head.rows() as usize,
     };
-    match add_coded(alloc, query, &[], &segment, groups, pool) {
+    match add_coded(alloc, query, &[], &segment, &mut rooms.places, groups, pool) {
         Ok(()) => {
             drop(columns);
             rooms.give_back(read);

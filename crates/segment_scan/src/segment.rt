@@ -76,7 +76,7 @@ pub fn scan_segment<S: Shelf>(
         Some(docs) => {
             let answered = Answered { head, table, query };
             scan_left(
-                alloc, shelf, &answered, choices, &docs, &unsure, groups, pool,
+                rooms, shelf, &answered, choices, &docs, &unsure, groups, pool,
             )
         }
     }

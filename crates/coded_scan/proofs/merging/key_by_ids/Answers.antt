@@ -7,8 +7,8 @@ use Rattle.coded_columns.specs.Coded.{table_of}
 use Rattle.coded_scan.proofs.KeyedMerges.{key-next}
 use Rattle.coded_scan.proofs.merging.key_by_ids.Goals as goal
 
-pub value_of-requires : goal.value_of-requires
-value_of-requires c =
+pub shared_value-requires : goal.shared_value-requires
+shared_value-requires c =
     let told = c.requires.row in
     record { row = told.row; within = told.within; is = told.are.each c.loop-at.at c.loop-at-test.true }
 
@@ -16,8 +16,8 @@ pub loop-at-preserved : goal.loop-at-preserved
 loop-at-preserved c = λ row lt are.
     let columns : List ℕ = c.args.columns.now in
     let own : List Value = row_of (table_of c.args.segment.now).columns row in
-    c.in_ok-push.ensures.items ∙ ap (λ (l : List Value). l ++ c.in_ok-value_of.field-0 ∷ []) (c.loop-at.invariant row lt are)
-    ∙ ap (λ (v : Value). key_of (take c.loop-at.at columns) own ++ v ∷ []) (c.in_ok-value_of.ensures row lt (are.each c.loop-at.at c.loop-at-test.true))
+    c.in_ok-push.ensures.items ∙ ap (λ (l : List Value). l ++ c.in_ok-value.value ∷ []) (c.loop-at.invariant row lt are)
+    ∙ ap (λ (v : Value). key_of (take c.loop-at.at columns) own ++ v ∷ []) (c.in_ok-value.ensures row lt (are.each c.loop-at.at c.loop-at-test.true))
     ∙ sym (key-next columns c.loop-at.at own c.loop-at-test.true)
 
 pub returns : goal.returns

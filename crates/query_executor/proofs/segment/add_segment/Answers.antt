@@ -8,7 +8,7 @@ use Rattle.query_executor.specs.Steps.{AddsStored, IsStoredOverfull}
 use Rattle.segment_reads.specs.Looked.{IsDoneIn}
 use Rattle.segment_opening.specs.Calls.{FailsColumn, IsOpened}
 use Rattle.segment_opening.specs.Emptied.{IsEmptied}
-use Rattle.segment_opening.specs.Found.{IsFoundAlone}
+use Rattle.segment_opening.specs.Found.{IsFoundBeside}
 use Rattle.segment_opening.specs.Opened.{Grows, IsHeadIn}
 use Rattle.query_executor.specs.ByIds.{CanAskByIds}
 use Rattle.query_executor.proofs.AfterHead.{adds_after, done_after, opened_loaded}
@@ -59,14 +59,14 @@ add_by_ids-requires g c =
     let found = c.in-But.found in
     let same = c.in-Ok.ensures.looks.only_reads.held in
     let grown : Grows table a.held head full = subst (λ h. Grows table h head full) same c.in-Ok-load_or_look_up.ensures.loads.grows in
-    let but : IsFoundAlone query table a.held c.is_some-by_tree.result head full found.column found.matched = subst (λ h. IsFoundAlone query table h c.is_some-by_tree.result head full found.column found.matched) same (c.in-Ok-load_or_look_up.ensures.found found c.in-But.is) in
+    let but : IsFoundBeside query table a.held c.is_some-by_tree.result head full found.conjuncts found.counts.items = subst (λ h. IsFoundBeside query table h c.is_some-by_tree.result head full found.conjuncts found.counts.items) same (c.in-Ok-load_or_look_up.ensures.found found c.in-But.is) in
     record {
       pooled = c.requires.pooled;
       room = c.requires.room;
-      can = subst (λ h. CanAskByIds query table h segment full found.column found.matched.count found.matched.ids) (sym (c.in-Ok-load_or_look_up.ensures.loads.only_reads.held ∙ same))
-          (can_ask table c.head_tells_law.ensures c.requires.of_table.valid query c.requires.of_table.query a.held segment head full found.column found.matched c.is_some-by_tree.result c.in-Ok.ensures.opened grown
+      can = subst (λ h. CanAskByIds query table h segment full found.conjuncts found.counts.items) (sym (c.in-Ok-load_or_look_up.ensures.loads.only_reads.held ∙ same))
+          (can_ask table c.head_tells_law.ensures c.requires.of_table.valid query found.conjuncts found.counts.items c.requires.of_table.query a.held segment head full c.in-Ok.ensures.opened grown
           (sym c.prune.ensures ∙ c.if-prune.false)
-          (λ untreed. unpicked_so (picked query table.settings.trees) (sym (c.is_some-by_tree.ensures ∙ ap is_some (c.pick.ensures ∙ ap (picked query) c.as_slice.ensures)) ∙ untreed)) but);
+          (unpicked_so (picked query table.settings.trees) (sym (c.is_some-by_tree.ensures ∙ ap is_some (c.pick.ensures ∙ ap (picked query) c.as_slice.ensures)) ∙ but.untreed)) but.askable but.whole);
     }
 
 pub returns-in-Err : goal.returns-in-Err

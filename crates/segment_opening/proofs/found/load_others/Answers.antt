@@ -1,9 +1,8 @@
-use Rattle.std.proofs.Common.{◌≡◌, ◌∙◌, ◌||◌, false, true, get_or, ap, arith}
-use Rattle.std.specs.List.{list_any}
-use Rattle.segment_plan.specs.Named.{AreNamedLoaded, agg_names, conjunct_names, is_in, query_names}
+use Rattle.std.proofs.Common.{◌≡◌, ◌∙◌, false, true, get_or, ap, arith}
+use Rattle.segment_plan.specs.Named.{AreNamedLoaded}
 use Rattle.segment_opening.specs.Found.{unfiltered}
 use Rattle.segment_opening.proofs.NamedLemmas.{AreMarkedLoaded, named_within}
-use Rattle.segment_opening.proofs.FoundLemmas.{unfiltered_names}
+use Rattle.segment_opening.proofs.FoundLemmas.{marked_so, unfiltered_names}
 use Rattle.segment_opening.proofs.HeadLemmas.{ok_so}
 use Rattle.segment_opening.proofs.found.load_others.Goals as goal
 
@@ -16,5 +15,5 @@ returns-clause-others g c =
     ok_so c.load_marked.result (AreMarkedLoaded table marks head) (AreNamedLoaded (unfiltered query) head)
     (λ loaded column names.
     let lt = named_within table query column c.requires.asked.query (unfiltered_names query column names) in
-    loaded column lt (ap (λ l. get_or l column false) c.as_slice.ensures.value ∙ c.in_ok-others.ensures.each column (omega (arith, lt, c.len.ensures)) ∙ names))
+    loaded column lt (ap (λ l. get_or l column false) c.as_slice.ensures.value ∙ marked_so query c.len.result c.in_ok-others.others.items c.in_ok-others.ensures column (omega (arith, lt, c.len.ensures)) names))
     c.load_marked.ensures.loaded

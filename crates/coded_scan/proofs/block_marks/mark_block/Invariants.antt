@@ -1,7 +1,7 @@
 use Rattle.std.proofs.Common.{◌≡◌, ◌+◌, length, take}
 use Rattle.coded_scan.specs.Marks.{AreMarks}
 use Rattle.coded_scan.specs.RowFilters.{all_let}
-use Rattle.coded_scan.proofs.block_marks.keep_all.Given as goal
+use Rattle.coded_scan.proofs.block_marks.mark_block.Given as goal
 
 abbrev pub invariant-loop-at : goal.invariant-loop-at
 invariant-loop-at l = record {

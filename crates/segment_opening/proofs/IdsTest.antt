@@ -1,5 +1,5 @@
 -- The test that a number is one of some ids.
-use Rattle.std.proofs.Common.{◌≡◌, ◌∙◌, ◌<◌, ◌≤◌, ◌+◌, ◌-◌, ◌&&◌, ◌||◌, ◌==◌, ◌∷◌, [], ℕ, zero, suc, pos, Bool, true, false, nat_eq, nat_le, List, Some, length, map, get_or, slice_get, refl, sym, ap, subst, arith}
+use Rattle.std.proofs.Common.{◌≡◌, ◌∙◌, ◌<◌, ◌≤◌, ◌+◌, ◌-◌, ◌&&◌, ◌||◌, ◌==◌, ◌∷◌, [], not, ℕ, zero, suc, pos, Bool, true, false, nat_eq, nat_le, List, Some, length, map, get_or, slice_get, refl, sym, ap, subst, arith}
 use Rattle.std.proofs.lemmas.Bool.{cases_order, eq-eqb, eqb-true, false≢true, le-leb, lt-leb, lt-ltb, le-ltb, ne_eqb}
 use Rattle.std.specs.Ordering.{int_cmp, is_le, nat_cmp}
 use Rattle.std.specs.Prelude.{nat_lt}
@@ -10,7 +10,7 @@ use Rattle.values.specs.declared.test.Test.TheFolds.{fold-roll-Test}
 use Rattle.values.specs.declared.test.Test.TheVariants.{Between, OneOf, rolls-Between, rolls-OneOf}
 use Rattle.values.specs.Order.{value_eq}
 use Rattle.values.specs.Tests.{holds, holds_step, is_at_most, is_member}
-use Rattle.value_ids.specs.Ids.{has_id}
+use Rattle.value_ids.specs.Ids.{has_id, is_outside}
 use Rattle.segment_plan.specs.Choices.{are_consecutive, follow}
 
 left_true : (a b : Bool) → a && b ≡ true → a ≡ true
@@ -83,3 +83,17 @@ one_of_is ids values id is =
     ∙ fold-roll-Test Bool (holds_step (Whole (pos id))) (Test-F.OneOf values false)
     ∙ ap (λ vs. is_member vs (Whole (pos id))) is
     ∙ member_is ids id
+
+-- a number below a count that is none of the ids that others lack is one of these
+pub none_of_is : (count : ℕ) (ids others : List ℕ) (values : List Value) (id : ℕ) → id < count → ((k : ℕ) → has_id others k ≡ is_outside count ids k) → values ≡ map (λ n. Whole (pos n)) others → holds (Whole (pos id)) (OneOf values true) ≡ has_id ids id
+none_of_is count ids others values id lt outside is =
+    ap (holds (Whole (pos id))) (sym (rolls-OneOf values true))
+    ∙ fold-roll-Test Bool (holds_step (Whole (pos id))) (Test-F.OneOf values true)
+    ∙ ap (λ vs. not (is_member vs (Whole (pos id)))) is
+    ∙ ap not (member_is others id ∙ outside id)
+    ∙ ap (λ b. not (b && not (has_id ids id))) (lt-ltb id count lt)
+    ∙ twice (has_id ids id)
+  where
+    twice : (b : Bool) → not (true && not b) ≡ b
+    twice true = refl
+    twice false = refl
