@@ -1,12 +1,10 @@
 -- How many pairs each group has, and these numbers put in their places.
-use Rattle.std.proofs.Common.{◌≡◌, ◌∙◌, ℕ, zero, suc, ◌+◌, ◌<◌, ◌≤◌, Bool, true, false, cond, ◌==◌, List, [], ◌∷◌, ◌++◌, length, map, max, get_or, set, take, replicate, slice_get, position, Option, Some, None, refl, sym, ap, subst, arith, inl, inr, unwrap_or}
-use Rattle.std.proofs.lemmas.Bool.{ne_eqb}
+use Rattle.std.proofs.Common.{◌≡◌, ◌∙◌, ℕ, zero, suc, ◌+◌, ◌<◌, ◌≤◌, ◌⊎◌, Bool, true, false, not, cond, nat_lt, ◌==◌, List, [], ◌∷◌, ◌++◌, length, map, max, get_or, set, take, replicate, slice_get, position, Option, Some, None, refl, sym, ap, subst, arith, inl, inr, unwrap_or}
+use Rattle.std.proofs.lemmas.Bool.{le-ltb, lt-ltb, ne_eqb}
 use Rattle.std.proofs.lemmas.List.{length-map}
 use Rattle.std.proofs.lemmas.List.Sums.{count_by-le-length, sum_by_push}
 use Rattle.std.proofs.lemmas.Map.{keys-set_value, length-set_value}
-use Rattle.std_collections.proofs.HashLookup.{IsFirst, IsFirst-or_none}
-use Rattle.indexmap.proofs.MapLemmas.{index-absent, index-first}
-use Rattle.std.specs.List.{AllByRecursion, IsDistinct}
+use Rattle.std.specs.List.{AllByRecursion, IsDistinct, position_or_len}
 use Rattle.std.specs.Map.{keys_of, lookup, set_value}
 use Rattle.std.specs.Option.{option_map}
 use Rattle.values.specs.declared.value.Value.{Value}
@@ -26,6 +24,50 @@ use Rattle.group_table.proofs.KeptLemmas.{each_found, each_set, key_equiv, same_
 use Rattle.group_table.proofs.PooledSteps as steps
 use Rattle.group_table.proofs.SlotFrames as frames
 use Rattle.state_pool.proofs.SlotLemmas.{none_some}
+
+-- ---- the first key that passes a test
+
+abbrev IsFirst : (List Value → Bool) → List (List Value) → ℕ → Type 0
+IsFirst t [] i = ⊥
+IsFirst t (k ∷ ks) zero = t k ≡ true
+IsFirst t (k ∷ ks) (suc i) = (t k ≡ false) × IsFirst t ks i
+
+abbrev NonePass : (List Value → Bool) → List (List Value) → Type 0
+NonePass t ks = AllByRecursion (λ k. t k ≡ false) ks
+
+module _ (t : List Value → Bool) where
+  len_first : (ks : List (List Value)) (i : ℕ) → IsFirst t ks i → (position_or_len t ks ≡ i) × (i < length ks)
+  len_first [] i h = absurd h
+  len_first (k ∷ ks) zero h = (ap (λ b. cond (not b) (1 + position_or_len t ks) 0) h, omega arith)
+  len_first (k ∷ ks) (suc i) h =
+      let rest = len_first ks i h.1 in
+      let up : 1 + position_or_len t ks ≡ suc i = omega (arith, rest.0) in
+      (ap (λ b. cond (not b) (1 + position_or_len t ks) 0) h.0 ∙ up, omega (arith, rest.1))
+
+  len_none : (ks : List (List Value)) → NonePass t ks → position_or_len t ks ≡ length ks
+  len_none [] h = refl
+  len_none (k ∷ ks) h =
+      let rest = len_none ks h.1 in
+      let up : 1 + position_or_len t ks ≡ length (k ∷ ks) = omega (arith, rest) in
+      ap (λ b. cond (not b) (1 + position_or_len t ks) 0) h.0 ∙ up
+
+  position_first : (ks : List (List Value)) (i : ℕ) → IsFirst t ks i → position t ks ≡ Some i
+  position_first ks i h =
+      let first = len_first ks i h in
+      ap (λ n. cond (nat_lt n (length ks)) (Some n) None) first.0 ∙ ap (λ b. cond b (Some i) None) (lt-ltb i (length ks) first.1)
+
+  position_none : (ks : List (List Value)) → NonePass t ks → position t ks ≡ None
+  position_none ks h =
+      ap (λ n. cond (nat_lt n (length ks)) (Some n) None) (len_none ks h) ∙ ap (λ b. cond b (Some (length ks)) None) (le-ltb (length ks) (length ks) (omega arith))
+
+  first_or_none : (ks : List (List Value)) → NonePass t ks ⊎ ((i : ℕ) × IsFirst t ks i)
+  first_or_none [] = inl tt
+  first_or_none (k ∷ ks) = by (t k) refl (first_or_none ks)
+    where
+      by : (b : Bool) → t k ≡ b → NonePass t ks ⊎ ((i : ℕ) × IsFirst t ks i) → NonePass t (k ∷ ks) ⊎ ((i : ℕ) × IsFirst t (k ∷ ks) i)
+      by true e rest = inr (0, e)
+      by false e (inl none) = inl (e, none)
+      by false e (inr first) = inr (suc first.0, (e, first.1))
 
 -- ---- a pair more
 
@@ -49,7 +91,7 @@ module _ (columns : ℕ) where
         λ i. one i ∷ counted_none es h.1 i
 
     -- of the key at a place
-    pub counted_one : (es : List (List Value × X)) (at : ℕ) → IsDistinct key_eq (keys_of es) → IsFirst (key_eq (take columns pair)) es at
+    pub counted_one : (es : List (List Value × X)) (at : ℕ) → IsDistinct key_eq (keys_of es) → IsFirst (key_eq (take columns pair)) (keys_of es) at
         → counted (pairs ++ pair ∷ []) es ≡ set (counted pairs es) at (get_or (counted pairs es) at 0 + 1)
     unfolding IsDistinct
     counted_one [] at once h = absurd h
@@ -67,9 +109,9 @@ module _ (columns : ℕ) where
   pub counted_next : {X : Type 0} (pair : List Value) (pairs : List (List Value)) (es : List (List Value × X)) → IsDistinct key_eq (keys_of es)
       → counted (pairs ++ pair ∷ []) es ≡ one_more (position (key_eq (take columns pair)) (keys_of es)) (counted pairs es)
   counted_next {X} pair pairs es once =
-      elim (IsFirst-or_none (key_eq (take columns pair)) es) [
-        | inl absent ↦ counted_none pair pairs es absent ∙ ap (λ o. one_more o (counted pairs es)) (sym (index-absent (key_eq (take columns pair)) es absent))
-        | inr first ↦ counted_one pair pairs es first.0 once first.1 ∙ ap (λ o. one_more o (counted pairs es)) (sym (index-first (key_eq (take columns pair)) es first.0 first.1))
+      elim (first_or_none (key_eq (take columns pair)) (keys_of es)) [
+        | inl absent ↦ counted_none pair pairs es absent ∙ ap (λ o. one_more o (counted pairs es)) (sym (position_none (key_eq (take columns pair)) (keys_of es) absent))
+        | inr first ↦ counted_one pair pairs es first.0 once first.1 ∙ ap (λ o. one_more o (counted pairs es)) (sym (position_first (key_eq (take columns pair)) (keys_of es) first.0 first.1))
       ]
 
   -- no pair yet

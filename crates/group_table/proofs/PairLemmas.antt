@@ -296,15 +296,15 @@ module _ (groups : List ℕ) (column : ℕ) where
       no_more t (l ∷ ls) h =
           let other : key_eq q l ≡ false = ap (λ x. key_eq x l) (same_key q k t) ∙ h.0 in
           let one : count_by (λ k. key_eq q k) (l ∷ ls) ≡ cond (key_eq q l) 1 0 + count_by (λ k. key_eq q k) ls = sum_by-cons (λ k. cond (key_eq q k) 1 0) l ls in
-          let zero : cond (key_eq q l) 1 0 ≡ 0 = ap (λ b. cond b 1 0) other in
+          let zero : ◌≡◌ {A = ℕ} (cond (key_eq q l) 1 0) 0 = ap (λ b. cond b 1 0) other in
           omega (arith, one, zero, no_more t ls h.1)
 
       by : (b : Bool) → key_eq q k ≡ b → b || list_any (key_eq q) ks ≡ true → (list_any (key_eq q) ks ≡ true → count_by (λ k. key_eq q k) ks ≡ 1) → count_by (λ k. key_eq q k) (k ∷ ks) ≡ 1
       by true t any rest =
-          let one : cond (key_eq q k) 1 0 ≡ 1 = ap (λ b. cond b 1 0) t in
+          let one : ◌≡◌ {A = ℕ} (cond (key_eq q k) 1 0) 1 = ap (λ b. cond b 1 0) t in
           omega (arith, c, one, no_more t ks (IsDistinct-head key_eq k ks d))
       by false t any rest =
-          let zero : cond (key_eq q k) 1 0 ≡ 0 = ap (λ b. cond b 1 0) t in
+          let zero : ◌≡◌ {A = ℕ} (cond (key_eq q k) 1 0) 0 = ap (λ b. cond b 1 0) t in
           omega (arith, c, zero, rest any)
 
   turned : (row key : List Value) → has_key groups key row ≡ key_eq (key_of groups row) key
