@@ -27,12 +27,12 @@ use Rattle.state_pool.proofs.SlotLemmas.{none_some}
 
 -- ---- the first key that passes a test
 
-abbrev IsFirst : (List Value → Bool) → List (List Value) → ℕ → Type 0
+abbrev pub IsFirst : (List Value → Bool) → List (List Value) → ℕ → Type 0
 IsFirst t [] i = ⊥
 IsFirst t (k ∷ ks) zero = t k ≡ true
 IsFirst t (k ∷ ks) (suc i) = (t k ≡ false) × IsFirst t ks i
 
-abbrev NonePass : (List Value → Bool) → List (List Value) → Type 0
+abbrev pub NonePass : (List Value → Bool) → List (List Value) → Type 0
 NonePass t ks = AllByRecursion (λ k. t k ≡ false) ks
 
 module _ (t : List Value → Bool) where
@@ -72,13 +72,13 @@ module _ (t : List Value → Bool) where
 -- ---- a pair more
 
 module _ (columns : ℕ) where
-  abbrev counted : {X : Type 0} → List (List Value) → List (List Value × X) → List ℕ
+  abbrev pub counted : {X : Type 0} → List (List Value) → List (List Value × X) → List ℕ
   counted pairs es = map (λ entry. pairs_with columns entry.0 pairs) es
 
   one_pair : (key pair : List Value) (pairs : List (List Value)) → pairs_with columns key (pairs ++ pair ∷ []) ≡ pairs_with columns key pairs + cond (key_eq (take columns pair) key) 1 0
   one_pair key pair pairs = sum_by_push (λ p. cond (is_pair_of columns key p) 1 0) pairs pair
 
-  abbrev Missed : {X : Type 0} → List Value → List (List Value × X) → Type 0
+  abbrev pub Missed : {X : Type 0} → List Value → List (List Value × X) → Type 0
   Missed pair es = AllByRecursion (λ key. key_eq (take columns pair) key ≡ false) (keys_of es)
 
   module _ {X : Type 0} (pair : List Value) (pairs : List (List Value)) where

@@ -1,5 +1,4 @@
 use Rattle.group_table.proofs.PairLemmas.{pairs_are_members, pairs_are_values}
-use Rattle.group_table.proofs.CountedLemmas.{counts_all, plain_groups, plain_members}
 use Rattle.group_table.proofs.laws.pairs_law.Goals as goal
 
 pub returns-clause-members : goal.returns-clause-members
