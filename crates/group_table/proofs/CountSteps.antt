@@ -69,6 +69,16 @@ module _ (t : List Value → Bool) where
       by false e (inl none) = inl (e, none)
       by false e (inr first) = inr (suc first.0, (e, first.1))
 
+-- ---- the keys of entries, one more
+
+key_item : {X : Type 0} (es : List (List Value × X)) (at : ℕ) (key : List Value) (x : X) → Some (key, x) ≡ slice_get es at → take (suc at) (keys_of es) ≡ take at (keys_of es) ++ key ∷ []
+key_item [] at key x e = absurd (none_some (sym e))
+key_item {X} (y ∷ es) zero key x e = let is : (key, x) ≡ y = cc in ap (λ (z : List Value × X). z.0 ∷ []) (sym is)
+key_item (y ∷ es) (suc at) key x e = ap (λ l. y.0 ∷ l) (key_item es at key x e)
+
+pub key_next : {X : Type 0} (es : List (List Value × X)) (at : ℕ) (key : List Value) (x : X) → Some (key, x) ≡ slice_get es at → take (at + 1) (keys_of es) ≡ take at (keys_of es) ++ key ∷ []
+key_next es at key x e = ap (λ n. take n (keys_of es)) (let on : at + 1 ≡ suc at = omega arith in on) ∙ key_item es at key x e
+
 -- ---- a pair more
 
 module _ (columns : ℕ) where
