@@ -1,7 +1,6 @@
 pub mod MergeSteps
 pub mod RowFilterLemmas
 pub mod AddSteps
-pub mod Fours
 pub mod PlaceSteps
 pub mod KeyedMerges
 pub mod Lanes

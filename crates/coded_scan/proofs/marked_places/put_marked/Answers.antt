@@ -4,8 +4,8 @@ use Rattle.coded_scan.specs.Marks.{ones, ones_in}
 use Rattle.coded_scan.proofs.Ones.{few-places, marked-all, ones_in_passing}
 use Rattle.coded_scan.proofs.marked_places.put_marked.Goals as goal
 
-pub push_word-n-requires-clause-room : goal.push_word-n-requires-clause-room
-push_word-n-requires-clause-room c =
+pub push_ones-n-requires-clause-room : goal.push_ones-n-requires-clause-room
+push_ones-n-requires-clause-room c =
     let words = c.args.words.now in
     let from = c.args.from in
     let at = c.loop-at.at in
