@@ -12,7 +12,7 @@ use Rattle.bit_column.proofs.LaneSteps.{more-pieces, picked, picked-at}
 use Rattle.bit_column.proofs.Windows.{field-window}
 
 -- two bytes after so many
-two_at : (xs : List ℕ) (at : ℕ) → at + 2 ≤ length xs → take 2 (drop at xs) ≡ get_or xs at 0 ∷ get_or xs (at + 1) 0 ∷ []
+pub two_at : (xs : List ℕ) (at : ℕ) → at + 2 ≤ length xs → take 2 (drop at xs) ≡ get_or xs at 0 ∷ get_or xs (at + 1) 0 ∷ []
 two_at xs at within = ap (take 2) (drop_more xs at 0 (omega (arith, within)) ∙ ap (λ r. get_or xs at 0 ∷ r) (drop_more xs (at + 1) 0 (omega (arith, within))))
 
 -- the number of two bytes has their bits

@@ -90,6 +90,25 @@ bits-four n at xs within small is =
     let horner : following 0 ys ≡ n = omega arith in
     sym (ap (bits_of 8) (four_at xs at within) ∙ bits-following 0 0 ys bytes ∙ ap (bits 32) horner)
 
+-- three bytes after so many
+three_at : (xs : List ℕ) (at : ℕ) → at + 3 ≤ length xs → take 3 (drop at xs) ≡ get_or xs at 0 ∷ get_or xs (at + 1) 0 ∷ get_or xs (at + 2) 0 ∷ []
+three_at xs at within =
+    let second : at + 1 + 1 ≡ at + 2 = omega arith in
+    ap (take 3) (drop_more xs at 0 (omega (arith, within)) ∙ ap (λ r. get_or xs at 0 ∷ r)
+    (drop_more xs (at + 1) 0 (omega (arith, within)) ∙ ap (λ (k : ℕ). get_or xs (at + 1) 0 ∷ drop k xs) second ∙ ap (λ r. get_or xs (at + 1) 0 ∷ r)
+    (drop_more xs (at + 2) 0 (omega (arith, within)))))
+
+-- the number of three bytes has their bits
+pub bits-three : (n at : ℕ) (xs : List ℕ) → at + 3 ≤ length xs → ((i : ℕ) → get_or xs i 0 < 2 ^ 8)
+    → n ≡ get_or xs at 0 * 256 ^ 2 + get_or xs (at + 1) 0 * 256 + get_or xs (at + 2) 0
+    → bits 24 n ≡ bits_of 8 (take 3 (drop at xs))
+unfolding following AreBytes bits
+bits-three n at xs within small is =
+    let ys : List ℕ = get_or xs at 0 ∷ get_or xs (at + 1) 0 ∷ get_or xs (at + 2) 0 ∷ [] in
+    let bytes : AreBytes ys = (small at, (small (at + 1), (small (at + 2), tt))) in
+    let horner : following 0 ys ≡ n = omega arith in
+    sym (ap (bits_of 8) (three_at xs at within) ∙ bits-following 0 0 ys bytes ∙ ap (bits 24) horner)
+
 -- eight bytes after so many
 eight_at : (xs : List ℕ) (at : ℕ) → at + 8 ≤ length xs → take 8 (drop at xs) ≡ get_or xs at 0 ∷ get_or xs (at + 1) 0 ∷ get_or xs (at + 2) 0 ∷ get_or xs (at + 3) 0 ∷ get_or xs (at + 4) 0 ∷ get_or xs (at + 5) 0 ∷ get_or xs (at + 6) 0 ∷ get_or xs (at + 7) 0 ∷ []
 eight_at xs at within =

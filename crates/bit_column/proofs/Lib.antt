@@ -2,6 +2,7 @@ pub mod LaneSteps
 pub mod WordSteps
 pub mod BitLemmas
 pub mod EightSteps
+pub mod LongSteps
 pub mod Most
 pub mod NarrowSteps
 pub mod Fields

@@ -47,3 +47,8 @@ pub record IsEightPlan (width : ℕ) (plan : EightPlan) : Type 0 where
   pub bit : plan.bit < 8
   pub positions : AreEightPositions plan.bit width plan.positions
   pub factors : AreEightFactors plan.bit width plan.factors
+
+-- where the byte after the two bytes of each of eight ids is, twice
+pub record AreLastPositions (bit width : ℕ) (positions : List ℕ) : Type 0 where
+  pub long : length positions ≡ 16
+  pub each : (m : ℕ) → m < 16 → get_or positions m 0 ≡ (bit + m / 2 * width) / 8 + 2

@@ -9,6 +9,7 @@ mod file_part;
 mod id_range;
 mod lanes;
 mod laws;
+mod long_eights;
 mod narrow_ids;
 mod narrow_lanes;
 mod narrowing;

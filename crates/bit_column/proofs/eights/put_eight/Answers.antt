@@ -3,7 +3,10 @@ use Rattle.std.proofs.lemmas.Simd.{take_more_put_chunk}
 use Rattle.bit_column.proofs.EightSteps.{eight-filled}
 use Rattle.bit_column.proofs.eights.put_eight.Goals as goal
 
-pub returns : goal.returns
-returns c = λ first place so_far.
-    eight-filled c.args.bytes.now c.args.ids.now _ c.eight.result c.args.at c.args.plan.bit first c.args.width.bits c.args.to c.eight.ensures.long c.eight.ensures.each place
-    (take_more_put_chunk c.args.to c.args.ids.now c.eight.result (c.args.to + 8) (omega (arith, c.eight.ensures.long)) c.requires.to) so_far
+pub returns-clause-filled : goal.returns-clause-filled
+returns-clause-filled c = λ first place so_far.
+    eight-filled c.args.bytes.now c.args.ids.now _ c.eight-lanes.result c.args.at c.args.plan.bit first c.args.width.bits c.args.to c.eight-lanes.ensures.long c.eight-lanes.ensures.each place
+    (take_more_put_chunk c.args.to c.args.ids.now c.eight-lanes.result (c.args.to + 8) (omega (arith, c.eight-lanes.ensures.long)) c.requires.to) so_far
+
+pub returns-clause-put : goal.returns-clause-put
+returns-clause-put c = take_more_put_chunk c.args.to c.args.ids.now c.eight-lanes.result (c.args.to + 8) (omega (arith, c.eight-lanes.ensures.long)) c.requires.to
