@@ -292,8 +292,8 @@ fn has_value(dictionary: &Dictionary, id: u32, value: &Value) -> bool
             Some(numbers) => numbers[id as usize] == *number,
             None => false,
         },
-        Value::Text(text) => match dictionary.text_at(id) {
-            Some(own) => own.as_bytes() == text.as_slice(),
+        Value::Text(text) => match dictionary.bytes_at(id) {
+            Some(own) => own == text.as_slice(),
             None => false,
         },
     }

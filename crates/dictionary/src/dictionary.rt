@@ -132,6 +132,17 @@ impl Dictionary {
         }
     }
 
+    /// The bytes of the text of an id, if the values are no numbers.
+    #[inline(always)]
+    pub fn bytes_at(&self, id: u32) -> Option<&[u8]>
+        requires { id < length self.now.values }
+        ensures { MatchOption result
+            (AreNumbers self.now.values)
+            (λ text. slice_get self.now.values id ≡ Some (value.Text text.now)) }
+    {
+        self.values.text_at(id as usize)
+    }
+
     // The values, which ascend.
     fn ascending(&self) -> AscendingValues<'_>
         ensures { result.values.now ≡ self.now.values }

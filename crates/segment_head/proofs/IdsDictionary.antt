@@ -1,20 +1,16 @@
 -- The numbers below a count are a dictionary.
-use Rattle.std.proofs.Common.{◌≡◌, ◌∙◌, ◌≤◌, ◌<◌, ◌+◌, ℕ, zero, suc, pos, true, All, List, [], ◌∷◌, ◌++◌, length, map, get_or, refl, sym, ap, subst, arith, lt-ltb}
+use Rattle.std.proofs.Common.{◌≡◌, ◌≤◌, ◌<◌, ◌+◌, ℕ, zero, suc, pos, All, List, [], ◌∷◌, length, map, get_or, refl, sym, ap, subst, arith, lt-ltb}
 use Rattle.std.specs.List.{AllByRecursion, range_with_len}
 use Rattle.std.specs.List.Sorted.{IsStrictlySortedBy}
 use Rattle.std.specs.Ordering.{int_cmp}
 use Rattle.std.specs.declared.cmp.Ordering.TheVariants.{Less}
-use Rattle.std.proofs.lemmas.List.FromFn.{get_or-map-range_with_len, length-map-range_with_len, map-range_with_len_more}
+use Rattle.std.proofs.lemmas.List.FromFn.{get_or-map-range_with_len, length-map-range_with_len}
 use Rattle.data_types.specs.declared.kind.FieldKind.TheVariants.{Long}
 use Rattle.values.specs.declared.value.Value.{Value}
 use Rattle.values.specs.declared.value.Value.TheVariants.{Whole}
 use Rattle.values.specs.Order.{value_order}
 use Rattle.value_ids.specs.Dictionary.{Fits, IsDictionary, IsUnicode, most_values}
 use Rattle.segment_head.specs.ColumnIds.{ids_below, numbers_below}
-
--- with one id more
-pub more_ids : (n : ℕ) → map pos (range_with_len 0 (n + 1)) ≡ map pos (range_with_len 0 n) ++ pos n ∷ []
-more_ids n = map-range_with_len_more pos 0 n n (omega arith)
 
 pub as_values : (ns : List ℕ) → map Whole (map pos ns) ≡ map (λ n. Whole (pos n)) ns
 as_values [] = refl

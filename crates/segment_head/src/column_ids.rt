@@ -1,5 +1,6 @@
 //! The ids of a column in place of its values, where these are only tested.
-ghost use Rattle.std.specs.Prelude.{◌≡◌, ◌≤◌, ◌<◌, IfOk, OnErr, OnOk, length};
+ghost use Rattle.std.specs.Prelude.{◌≡◌, ◌≤◌, ◌<◌, IfOk, OnErr, OnOk, length, map, pos};
+ghost use Rattle.std.specs.List.{range_with_len};
 ghost use Rattle.value_ids.specs.Dictionary.{most_values};
 ghost use Rattle.segment_head.specs.ColumnIds.{ids_below, with_ids};
 
@@ -35,9 +36,17 @@ fn dictionary_of_ids(alloc: Global, count: u32) -> Result<Dictionary, NoMemory>
     requires { count ≤ most_values }
     ensures { IfOk result (λ d. d ≡ ids_below count) }
 {
-    let mut numbers = Vec::with_capacity(alloc, count as usize)?;
-    'ids: for id in 0..count {
-        numbers.push(i64::from(id))?;
-    }
+    let mut numbers = vec![in alloc; 0i64; count as usize]?;
+    put_ids(&mut numbers);
     Ok(Dictionary::of_numbers(FieldKind::Long, numbers))
+}
+
+// Puts at each place its number, many at a time.
+fn put_ids(numbers: &mut [i64])
+    requires { length numbers.old ≤ most_values }
+    ensures { numbers.new ≡ map pos (range_with_len 0 (length numbers.old)) }
+{
+    for at in 0..numbers.len() {
+        numbers[at] = i64::from(at as u32);
+    }
 }

@@ -63,8 +63,8 @@ fn is_value(column: &GroupColumn<'_>, id: u32, value: &Value) -> bool
             Some(numbers) => numbers[id as usize] == *number,
             None => false,
         },
-        Value::Text(text) => match column.values.text_at(id) {
-            Some(own) => own.as_bytes() == text.as_slice(),
+        Value::Text(text) => match column.values.bytes_at(id) {
+            Some(own) => own == text.as_slice(),
             None => false,
         },
     }
