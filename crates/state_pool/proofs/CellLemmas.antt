@@ -17,7 +17,7 @@ use Rattle.state_pool.proofs.SlotLemmas.{past, none_some}
 -- ---- parts of a list
 
 -- a part that lies within the first of two lists
-within : {X : Type 0} (xs ys : List X) (a m : ℕ) → a + m ≤ length xs → take m (drop a (xs ++ ys)) ≡ take m (drop a xs)
+pub within : {X : Type 0} (xs ys : List X) (a m : ℕ) → a + m ≤ length xs → take m (drop a (xs ++ ys)) ≡ take m (drop a xs)
 within xs ys a m le = ap (take m) (drop-append-le a xs ys (omega (arith, le))) ∙ take-append-le m (drop a xs) ys (omega (arith, le, length-drop a xs))
 
 -- what is left from a place in the second of two lists on

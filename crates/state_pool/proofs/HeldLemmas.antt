@@ -1,10 +1,10 @@
 -- Slots that are still held after another one is taken, and a slot that is taken and then written.
-use Rattle.std.proofs.Common.{◌≡◌, ◌≢◌, ◌∙◌, ℕ, ◌<◌, ◌≤◌, true, List, [], sym, ap, subst, arith, ◌⊎◌, inl, inr, is_some}
+use Rattle.std.proofs.Common.{◌≡◌, ◌≢◌, ◌∙◌, ℕ, ◌<◌, ◌≤◌, true, List, sym, ap, subst, arith, ◌⊎◌, inl, inr, is_some}
 use Rattle.std.proofs.lemmas.Bool.{cases_lt}
 use Rattle.std.specs.FinMap as finite
 use Rattle.agg_laws.specs.declared.states.AggState.{AggState}
 use Rattle.agg_laws.specs.Rows.{units_of}
-use Rattle.state_pool.specs.Pool.{Pool, Place, Slots, slots_of, kinds_at, Changes, Writes, Takes, IsOut}
+use Rattle.state_pool.specs.Pool.{Pool, Place, Slots, slots_of, kinds_at, Writes, Takes, IsOut}
 use Rattle.state_pool.proofs.SlotLemmas.{put_here, put_there, same_slots}
 
 -- what is asked of a number holds of every number if it holds of that one and of every other

@@ -11,7 +11,7 @@ use Rattle.agg_laws.specs.declared.states.AggState.{AggState}
 use Rattle.state_pool.specs.declared.pool.Owner.{Owner}
 use Rattle.state_pool.specs.Pool.{Pool, Slots, is_held, row_of, slots_of, kinds_at, held, SetsKinds}
 use Rattle.state_pool.specs.Kept.{IsOwner, IsKept, HasRoom, pool_in, most_of, out_of}
-use Rattle.state_pool.proofs.SlotLemmas.{slot_at, none_some}
+use Rattle.state_pool.proofs.SlotLemmas.{slot_at, none_some, held_by}
 use Rattle.state_pool.proofs.HeldLemmas.{each_number}
 use Rattle.state_pool.proofs.OwnerLemmas.{own_kept, set_map}
 
@@ -20,17 +20,17 @@ map_set f [] i y = refl
 map_set f (x ∷ xs) zero y = refl
 map_set f (x ∷ xs) (suc i) y = ap (λ l. f x ∷ l) (map_set f xs i y)
 
-module _ (owners : List Owner) (holders : List (Option ℕ)) (width : ℕ) (cells : List AggState) (free : List ℕ)
-    (kept : IsKept owners (pool_in owners holders width cells) free) (i : ℕ) (own : Owner) (lt : i < length owners) (is : own ≡ get_or owners i own)
-    (kinds : List AggKind) (none : held (pool_in owners holders width cells) i ≡ 0) where
+module _ (owners : List Owner) (holders : List (Option ℕ)) (limit width : ℕ) (cells : List AggState) (free : List ℕ)
+    (kept : IsKept owners (pool_in owners holders limit width cells) free) (i : ℕ) (own : Owner) (lt : i < length owners) (is : own ≡ get_or owners i own)
+    (kinds : List AggKind) (none : held (pool_in owners holders limit width cells) i ≡ 0) where
   abbrev pub with_kinds : Owner
   with_kinds = record { quota = own.quota; held = own.held; kinds = kinds }
 
   abbrev before : Pool
-  before = pool_in owners holders width cells
+  before = pool_in owners holders limit width cells
 
   abbrev after : Pool
-  after = pool_in (set owners i with_kinds) holders width cells
+  after = pool_in (set owners i with_kinds) holders limit width cells
 
   kinds_own : kinds_at after i ≡ kinds
   kinds_own = ap (λ (l : List (List AggKind)). get_or l i []) (map_set (λ (o : Owner). o.kinds) owners i with_kinds)
@@ -57,7 +57,7 @@ module _ (owners : List Owner) (holders : List (Option ℕ)) (width : ℕ) (cell
       ∙ ap (λ (ks : List AggKind). cond (is_held before other q) (Some (take (length ks) (drop (q * width) cells))) None) (kinds_other other ne)
       ∙ sym (slot_at before other q))
 
-  pub sets_kinds : SetsKinds i kinds (pool_in owners holders width cells) (pool_in (set owners i with_kinds) holders width cells)
+  pub sets_kinds : SetsKinds i kinds (pool_in owners holders limit width cells) (pool_in (set owners i with_kinds) holders limit width cells)
   sets_kinds = record {
     quotas = set_map (λ (o : Owner). o.quota) owners i own with_kinds lt is refl;
     width = refl;
@@ -74,14 +74,18 @@ module _ (owners : List Owner) (holders : List (Option ℕ)) (width : ℕ) (cell
   same_out = let e = sum_by-set (λ (o : Owner). o.held) owners i with_kinds own lt in
       let s : (get_or owners i own).held ≡ own.held = ap (λ (o : Owner). o.held) (sym is) in omega (arith, e, s)
 
-  pub kinds_room : (h c f : ℕ) → HasRoom (most_of owners) width h c f → HasRoom (most_of (set owners i with_kinds)) width h c f
-  kinds_room h c f room = subst (λ n. HasRoom n width h c f) (sym same_most) room
+  pub kinds_room : (h c f : ℕ) → HasRoom (most_of owners) limit h c f → HasRoom (most_of (set owners i with_kinds)) limit h c f
+  kinds_room h c f room = subst (λ n. HasRoom n limit h c f) (sym same_most) room
 
-  pub kinds_kept : length kinds ≤ width → IsKept (set owners i with_kinds) (pool_in (set owners i with_kinds) holders width cells) free
+  pub kinds_kept : length kinds ≤ limit → IsKept (set owners i with_kinds) (pool_in (set owners i with_kinds) holders limit width cells) free
   kinds_kept few = record {
     each = λ at d less. each_number (λ at. at < length owners → IsOwner after at (get_or (set owners i with_kinds) at d)) i
         (λ l. here d) (λ at ne l. other at d l ne) at (omega (arith, less, length-set owners i with_kinds));
     known = λ number owner e. omega (arith, kept.known number owner e, length-set owners i with_kinds);
+    narrow = λ number owner e. each_number (λ owner. get_or holders number None ≡ Some owner → length (kinds_at after owner) ≤ width) i
+        (λ own_e. absurd (none_some (sym (none_here number) ∙ held_by before i number own_e)))
+        (λ other ne other_e. subst (λ (ks : List AggKind). length ks ≤ width) (sym (kinds_other other ne)) (kept.narrow number other other_e)) owner e;
+    within = kept.within;
     free_are = kept.free_are;
     all_cells = kept.all_cells;
     all_numbers = omega (arith, kept.all_numbers, same_out);
@@ -89,7 +93,7 @@ module _ (owners : List Owner) (holders : List (Option ℕ)) (width : ℕ) (cell
   }
     where
       here : (d : Owner) → IsOwner after i (get_or (set owners i with_kinds) i d)
-      here d = let o = own_kept owners holders width cells free kept i own lt is in
+      here d = let o = own_kept owners holders limit width cells free kept i own lt is in
           subst (IsOwner after i) (sym (get_or-set_same owners i with_kinds d lt)) (record {
             counted = o.counted ∙ ap finite.len (sym slots_own);
             within = o.within;

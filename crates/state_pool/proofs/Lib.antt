@@ -6,3 +6,4 @@ pub mod PoolSteps
 pub mod HeldLemmas
 mod KindSteps
 mod PairSteps
+mod WideSteps

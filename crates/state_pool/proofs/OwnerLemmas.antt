@@ -1,7 +1,8 @@
 -- A pool after one of its slots is taken, given back or written.
-use Rattle.std.proofs.Common.{◌≡◌, ◌≢◌, ◌∙◌, ℕ, zero, suc, ◌+◌, ◌*◌, ◌-◌, ◌<◌, ◌≤◌, ◌⊎◌, inl, inr, true, false, cond, List, [], ◌∷◌, ◌++◌, length, get_or, set, take, drop, map, Option, Some, None, refl, sym, ap, subst, arith, is_some, length-append, unwrap_or}
+use Rattle.std.proofs.Common.{◌≡◌, ◌≢◌, ◌∙◌, ℕ, zero, suc, ◌+◌, ◌*◌, ◌-◌, ◌<◌, ◌≤◌, ◌⊎◌, inl, inr, Bool, true, false, cond, List, [], ◌∷◌, ◌++◌, length, get_or, set, take, drop, map, Option, Some, None, refl, sym, ap, subst, arith, is_some, length-append, unwrap_or}
+use borrow.Author.Tests.{eqb-true}
 use Rattle.std.proofs.lemmas.Bool.{cases_lt}
-use Rattle.std.proofs.lemmas.List.{length-set, length-map, get_or-set_same, get_or-set_other, get_or_past, get_or_default}
+use Rattle.std.proofs.lemmas.List.{length-set, get_or-set_same, get_or-set_other, get_or_default}
 use Rattle.std.proofs.lemmas.List.Sums.{sum_by-set, get_or-le-sum_by, sum_by-cons}
 use Rattle.std.proofs.lemmas.Nat.{mul-le}
 use Rattle.std.specs.FinMap as finite
@@ -23,14 +24,16 @@ pub record Moved (number : ℕ) (old new : Pool) : Type 0 where
   pub quotas : new.quotas ≡ old.quotas
   pub kinds : new.kinds ≡ old.kinds
   pub width : new.width ≡ old.width
+  pub stride : new.stride ≡ old.stride
   pub others : (q : ℕ) → q ≢ number → get_or new.holders q None ≡ get_or old.holders q None
-  pub rows : (q few : ℕ) → q ≢ number → q < length old.holders → few ≤ old.width
-      → take few (drop (q * old.width) new.cells) ≡ take few (drop (q * old.width) old.cells)
+  pub rows : (q few : ℕ) → q ≢ number → q < length old.holders → few ≤ old.stride
+      → take few (drop (q * old.stride) new.cells) ≡ take few (drop (q * old.stride) old.cells)
 
-module _ (number : ℕ) (old new : Pool) (m : Moved number old new) (fits : (owner : ℕ) → length (kinds_at old owner) ≤ old.width) where
-  row_kept : (owner q : ℕ) → q ≢ number → q < length old.holders → row_of new owner q ≡ row_of old owner q
-  row_kept owner q ne lt = (λ i. take (length (get_or (m.kinds i) owner [])) (drop (q * m.width i) new.cells))
-      ∙ m.rows q (length (kinds_at old owner)) ne lt (fits owner)
+module _ (number : ℕ) (old new : Pool) (m : Moved number old new)
+    (fits : (q owner : ℕ) → get_or old.holders q None ≡ Some owner → length (kinds_at old owner) ≤ old.stride) where
+  row_kept : (owner q : ℕ) → q ≢ number → get_or old.holders q None ≡ Some owner → row_of new owner q ≡ row_of old owner q
+  row_kept owner q ne e = (λ i. take (length (get_or (m.kinds i) owner [])) (drop (q * m.stride i) new.cells))
+      ∙ m.rows q (length (kinds_at old owner)) ne (in_range old.holders q owner e) (fits q owner e)
 
   kept : (owner q : ℕ) → q ≢ number → finite.get (slots_of new owner) q ≡ finite.get (slots_of old owner) q
   kept owner q ne = slot_at new owner q ∙ by (get_or old.holders q None) refl ∙ sym (slot_at old owner q)
@@ -39,7 +42,12 @@ module _ (number : ℕ) (old new : Pool) (m : Moved number old new) (fits : (own
           → cond (is_of owner (get_or new.holders q None)) (Some (row_of new owner q)) None ≡ cond (is_of owner (get_or old.holders q None)) (Some (row_of old owner q)) None
       by None e = ap (λ (h : Option ℕ). cond (is_of owner h) (Some (row_of new owner q)) None) (m.others q ne ∙ e)
           ∙ sym (ap (λ (h : Option ℕ). cond (is_of owner h) (Some (row_of old owner q)) None) e)
-      by (Some other) e = λ i. cond (is_of owner (m.others q ne i)) (Some (row_kept owner q ne (in_range old.holders q other e) i)) None
+      by (Some other) e = ap (λ (h : Option ℕ). cond (is_of owner h) (Some (row_of new owner q)) None) (m.others q ne ∙ e)
+          ∙ its (is_of owner (Some other)) refl ∙ sym (ap (λ (h : Option ℕ). cond (is_of owner h) (Some (row_of old owner q)) None) e)
+        where
+          its : (b : Bool) → is_of owner (Some other) ≡ b → cond b (Some (row_of new owner q)) None ≡ cond b (Some (row_of old owner q)) None
+          its true t = let same : owner ≡ other = eqb-true owner other t in ap Some (row_kept owner q ne (e ∙ ap Some (sym same)))
+          its false t = refl
 
   pub stays : (owner : ℕ) → finite.get (slots_of new owner) number ≡ finite.get (slots_of old owner) number → slots_of new owner ≡ slots_of old owner
   stays owner here = same_slots (slots_of new owner) (slots_of old owner) number here (λ q ne. kept owner q ne)
@@ -98,24 +106,17 @@ fewer_out (o ∷ os) (suc i) each lt less = omega (
   fewer_out os i (λ at lt. each (suc at) (omega (arith, lt))) (omega (arith, lt)) less,
 )
 
-module _ (owners : List Owner) (holders : List (Option ℕ)) (width : ℕ) (cells : List AggState) (free : List ℕ)
-    (kept : IsKept owners (pool_in owners holders width cells) free) where
-  pub kinds_fit : (owner : ℕ) → length (kinds_at (pool_in owners holders width cells) owner) ≤ width
-  kinds_fit owner = by (cases_lt owner (length owners))
-    where
-      by : (owner < length owners) ⊎ (length owners ≤ owner) → length (kinds_at (pool_in owners holders width cells) owner) ≤ width
-      by (inl lt) = subst (λ (ks : List AggKind). length ks ≤ width) (sym (map_at (λ (o : Owner). o.kinds) owners owner blank [] lt)) (kept.each owner blank lt).fits
-      by (inr le) = subst (λ (ks : List AggKind). length ks ≤ width) (sym (get_or_past (map (λ (o : Owner). o.kinds) owners) owner [] (omega (arith, le, length-map owners (λ (o : Owner). o.kinds))))) (omega arith)
-
+module _ (owners : List Owner) (holders : List (Option ℕ)) (limit width : ℕ) (cells : List AggState) (free : List ℕ)
+    (kept : IsKept owners (pool_in owners holders limit width cells) free) where
   -- an owner that is kept at a place
   module _ (i : ℕ) (own : Owner) (lt : i < length owners) (is : own ≡ get_or owners i own) where
-    pub own_kept : IsOwner (pool_in owners holders width cells) i own
-    own_kept = subst (IsOwner (pool_in owners holders width cells) i) (sym is) (kept.each i own lt)
+    pub own_kept : IsOwner (pool_in owners holders limit width cells) i own
+    own_kept = subst (IsOwner (pool_in owners holders limit width cells) i) (sym is) (kept.each i own lt)
 
-    pub own_kinds : kinds_at (pool_in owners holders width cells) i ≡ own.kinds
+    pub own_kinds : kinds_at (pool_in owners holders limit width cells) i ≡ own.kinds
     own_kinds = map_at (λ (o : Owner). o.kinds) owners i own [] lt ∙ ap (λ (o : Owner). o.kinds) (sym is)
 
-    pub own_quota : quota_of (pool_in owners holders width cells) i ≡ own.quota
+    pub own_quota : quota_of (pool_in owners holders limit width cells) i ≡ own.quota
     own_quota = map_at (λ (o : Owner). o.quota) owners i own 0 lt ∙ ap (λ (o : Owner). o.quota) (sym is)
 
     -- the owners with another count at that place
@@ -139,15 +140,18 @@ module _ (owners : List Owner) (holders : List (Option ℕ)) (width : ℕ) (cell
 
       -- what is kept once the slots of that owner change
       module _ (new_holders : List (Option ℕ)) (new_cells : List AggState) (new_free : List ℕ) (slots : Slots)
-          (changes : Changes i slots (pool_in owners holders width cells) (pool_in (set owners i counted) new_holders width new_cells)) where
+          (changes : Changes i slots (pool_in owners holders limit width cells) (pool_in (set owners i counted) new_holders limit width new_cells)) where
         pub kept_after : count ≡ finite.len slots → count ≤ own.quota
             → ((number owner : ℕ) → get_or new_holders number None ≡ Some owner → owner < length owners)
+            → ((number owner : ℕ) → get_or new_holders number None ≡ Some owner → length (kinds_at (pool_in owners holders limit width cells) owner) ≤ width)
             → AreFree new_holders new_free → length new_cells ≡ length new_holders * width
             → length new_holders ≡ out_of (set owners i counted) + length new_free → length new_holders ≤ most_of owners
-            → IsKept (set owners i counted) (pool_in (set owners i counted) new_holders width new_cells) new_free
-        kept_after len within known frees all_cells all_numbers few = record {
+            → IsKept (set owners i counted) (pool_in (set owners i counted) new_holders limit width new_cells) new_free
+        kept_after len within known narrow frees all_cells all_numbers few = record {
           each = λ at d less. by at d (omega (arith, less, length-set owners i counted)) (cases_lt at i) (cases_lt i at);
           known = λ number owner e. omega (arith, known number owner e, length-set owners i counted);
+          narrow = λ number owner e. subst (λ (kss : List (List AggKind)). length (get_or kss owner []) ≤ width) (sym same_kinds) (narrow number owner e);
+          within = kept.within;
           free_are = frees;
           all_cells = all_cells;
           all_numbers = all_numbers;
@@ -155,28 +159,28 @@ module _ (owners : List Owner) (holders : List (Option ℕ)) (width : ℕ) (cell
         }
           where
             other : (at : ℕ) (d : Owner) → at < length owners → at ≢ i
-                → IsOwner (pool_in (set owners i counted) new_holders width new_cells) at (get_or (set owners i counted) at d)
+                → IsOwner (pool_in (set owners i counted) new_holders limit width new_cells) at (get_or (set owners i counted) at d)
             other at d less ne = let o = kept.each at d less in
-                subst (IsOwner (pool_in (set owners i counted) new_holders width new_cells) at) (sym (get_or-set_other owners i at counted d ne)) (record {
+                subst (IsOwner (pool_in (set owners i counted) new_holders limit width new_cells) at) (sym (get_or-set_other owners i at counted d ne)) (record {
                   counted = o.counted ∙ ap finite.len (sym (changes.others at ne));
                   within = o.within;
                   fits = o.fits;
                 })
 
             by : (at : ℕ) (d : Owner) → at < length owners → (at < i) ⊎ (i ≤ at) → (i < at) ⊎ (at ≤ i)
-                → IsOwner (pool_in (set owners i counted) new_holders width new_cells) at (get_or (set owners i counted) at d)
+                → IsOwner (pool_in (set owners i counted) new_holders limit width new_cells) at (get_or (set owners i counted) at d)
             by at d less (inl before) after = other at d less (λ e. omega (arith, before, e))
             by at d less (inr ge) (inl after) = other at d less (λ e. omega (arith, after, e))
             by at d less (inr ge) (inr le) = let same : i ≡ at = omega (arith, ge, le) in
-                subst (λ at. IsOwner (pool_in (set owners i counted) new_holders width new_cells) at (get_or (set owners i counted) at d)) same
-                (subst (IsOwner (pool_in (set owners i counted) new_holders width new_cells) i) (sym (get_or-set_same owners i counted d lt)) (record {
+                subst (λ at. IsOwner (pool_in (set owners i counted) new_holders limit width new_cells) at (get_or (set owners i counted) at d)) same
+                (subst (IsOwner (pool_in (set owners i counted) new_holders limit width new_cells) i) (sym (get_or-set_same owners i counted d lt)) (record {
                   counted = len ∙ ap finite.len (sym changes.own);
                   within = within;
                   fits = own_kept.fits;
                 }))
 
-module _ (owners : List Owner) (holders : List (Option ℕ)) (width : ℕ) (cells : List AggState) (free : List ℕ)
-    (kept : IsKept owners (pool_in owners holders width cells) free) (i : ℕ) (own : Owner) (lt : i < length owners) (is : own ≡ get_or owners i own) where
+module _ (owners : List Owner) (holders : List (Option ℕ)) (limit width : ℕ) (cells : List AggState) (free : List ℕ)
+    (kept : IsKept owners (pool_in owners holders limit width cells) free) (i : ℕ) (own : Owner) (lt : i < length owners) (is : own ≡ get_or owners i own) where
   within_each : (at : ℕ) → at < length owners → (get_or owners at blank).held ≤ (get_or owners at blank).quota
   within_each at less = (kept.each at blank less).within
 
@@ -186,15 +190,14 @@ module _ (owners : List Owner) (holders : List (Option ℕ)) (width : ℕ) (cell
   some_left less = fewer_out owners i within_each lt (subst (λ (o : Owner). o.held < o.quota) (is ∙ get_or_default owners i own blank lt) less)
 
   -- where none is free there is room for one more
-  pub room_for : (most_room cells_room free_room : ℕ) → HasRoom (most_of owners) width most_room cells_room free_room
+  pub room_for : (most_room cells_room free_room : ℕ) → HasRoom (most_of owners) limit most_room cells_room free_room
       → own.held < own.quota → free ≡ [] → HasRoom (length holders + 1) width most_room cells_room free_room
   room_for h c f room less none =
       let count : length holders ≡ out_of owners + length free = kept.all_numbers in
       let empty : length free ≡ 0 = ap length none in
       let out : out_of owners < most_of owners = some_left less in
       let one : length holders + 1 ≤ most_of owners = omega (arith, count, empty, out) in
-      let same : width ≤ width = omega arith in
-      let cells : (length holders + 1) * width ≤ most_of owners * width = mul-le (length holders + 1) width (most_of owners) width one same in
+      let cells : (length holders + 1) * width ≤ most_of owners * limit = mul-le (length holders + 1) width (most_of owners) limit one kept.within in
       record {
         small = omega (arith, one, room.small);
         holders_fit = omega (arith, one, room.holders_fit);
@@ -205,17 +208,18 @@ module _ (owners : List Owner) (holders : List (Option ℕ)) (width : ℕ) (cell
   module _ (number : ℕ) (new_holders : List (Option ℕ)) (new_cells : List AggState) (new_free : List ℕ)
       (cells_taken : TakesCells i width own.kinds number holders new_holders cells new_cells) where
     old_pool : Pool
-    old_pool = pool_in owners holders width cells
+    old_pool = pool_in owners holders limit width cells
 
     new_pool : Pool
-    new_pool = pool_in (set owners i (counted owners holders width cells free kept i own lt is (own.held + 1))) new_holders width new_cells
+    new_pool = pool_in (set owners i (counted owners holders limit width cells free kept i own lt is (own.held + 1))) new_holders limit width new_cells
 
     moved : Moved number old_pool new_pool
     unfolding old_pool new_pool
     moved = record {
-      quotas = same_quotas owners holders width cells free kept i own lt is (own.held + 1);
-      kinds = same_kinds owners holders width cells free kept i own lt is (own.held + 1);
+      quotas = same_quotas owners holders limit width cells free kept i own lt is (own.held + 1);
+      kinds = same_kinds owners holders limit width cells free kept i own lt is (own.held + 1);
       width = refl;
+      stride = refl;
       others = cells_taken.others;
       rows = cells_taken.rows;
     }
@@ -223,11 +227,11 @@ module _ (owners : List Owner) (holders : List (Option ℕ)) (width : ℕ) (cell
     row_is : row_of new_pool i number ≡ units_of (kinds_at old_pool i)
     unfolding old_pool new_pool
     row_is = ap (λ (ks : List AggKind). take (length ks) (drop (number * width) new_cells))
-        (ap (λ (kss : List (List AggKind)). get_or kss i []) (same_kinds owners holders width cells free kept i own lt is (own.held + 1)) ∙ own_kinds owners holders width cells free kept i own lt is)
-        ∙ cells_taken.units ∙ ap units_of (sym (own_kinds owners holders width cells free kept i own lt is))
+        (ap (λ (kss : List (List AggKind)). get_or kss i []) (same_kinds owners holders limit width cells free kept i own lt is (own.held + 1)) ∙ own_kinds owners holders limit width cells free kept i own lt is)
+        ∙ cells_taken.units ∙ ap units_of (sym (own_kinds owners holders limit width cells free kept i own lt is))
 
-    pub takes : Takes i (record { owner = i; number = number }) (pool_in owners holders width cells)
-        (pool_in (set owners i (counted owners holders width cells free kept i own lt is (own.held + 1))) new_holders width new_cells)
+    pub takes : Takes i (record { owner = i; number = number }) (pool_in owners holders limit width cells)
+        (pool_in (set owners i (counted owners holders limit width cells free kept i own lt is (own.held + 1))) new_holders limit width new_cells)
     unfolding old_pool new_pool
     takes = record {
       owner_is = refl;
@@ -236,25 +240,26 @@ module _ (owners : List Owner) (holders : List (Option ℕ)) (width : ℕ) (cell
         quotas = moved.quotas;
         kinds = moved.kinds;
         width = refl;
-        own = puts number old_pool new_pool moved (kinds_fit owners holders width cells free kept) i (units_of (kinds_at old_pool i))
+        own = puts number old_pool new_pool moved kept.narrow i (units_of (kinds_at old_pool i))
             (held_by new_pool i number cells_taken.own ∙ ap Some row_is);
-        others = λ other ne. stays number old_pool new_pool moved (kinds_fit owners holders width cells free kept) other
+        others = λ other ne. stays number old_pool new_pool moved kept.narrow other
             (other_held new_pool i other number cells_taken.own ne ∙ sym (not_held old_pool other number cells_taken.unheld));
       };
     }
 
-    pub taken_kept : own.held < own.quota → TakesNumber holders new_holders free new_free
-        → IsKept (set owners i (counted owners holders width cells free kept i own lt is (own.held + 1)))
-        (pool_in (set owners i (counted owners holders width cells free kept i own lt is (own.held + 1))) new_holders width new_cells) new_free
+    pub taken_kept : own.held < own.quota → length own.kinds ≤ width → TakesNumber holders new_holders free new_free
+        → IsKept (set owners i (counted owners holders limit width cells free kept i own lt is (own.held + 1)))
+        (pool_in (set owners i (counted owners holders limit width cells free kept i own lt is (own.held + 1))) new_holders limit width new_cells) new_free
     unfolding old_pool new_pool
-    taken_kept less numbers = kept_after owners holders width cells free kept i own lt is (own.held + 1) new_holders new_cells new_free
+    taken_kept less few numbers = kept_after owners holders limit width cells free kept i own lt is (own.held + 1) new_holders new_cells new_free
         (finite.insert (slots_of old_pool i) number (units_of (kinds_at old_pool i))) takes.changes
-        len (omega (arith, less)) (λ q owner e. known q owner e (cases_lt q number) (cases_lt number q)) numbers.frees cells_taken.all_cells
-        (omega (arith, numbers.count, out_set owners holders width cells free kept i own lt is (own.held + 1), kept.all_numbers))
+        len (omega (arith, less)) (λ q owner e. known q owner e (cases_lt q number) (cases_lt number q))
+        (λ q owner e. narrow q owner e (cases_lt q number) (cases_lt number q)) numbers.frees cells_taken.all_cells
+        (omega (arith, numbers.count, out_set owners holders limit width cells free kept i own lt is (own.held + 1), kept.all_numbers))
         (omega (arith, numbers.few, kept.few_numbers, kept.all_numbers, some_left less))
       where
         len : own.held + 1 ≡ finite.len (finite.insert (slots_of old_pool i) number (units_of (kinds_at old_pool i)))
-        len = ap (λ n. n + 1) (own_kept owners holders width cells free kept i own lt is).counted
+        len = ap (λ n. n + 1) (own_kept owners holders limit width cells free kept i own lt is).counted
             ∙ sym (ap (λ (o : Option (List AggState)). cond (is_some o) (finite.len (slots_of old_pool i)) (finite.len (slots_of old_pool i) + 1)) (not_held old_pool i number cells_taken.unheld))
             ∙ sym (finite.len-insert nat_cmp_total (slots_of old_pool i) number (units_of (kinds_at old_pool i)))
 
@@ -268,9 +273,18 @@ module _ (owners : List Owner) (holders : List (Option ℕ)) (width : ℕ) (cell
             let o : Some owner ≡ Some i = sym e ∙ sym (ap (λ q. get_or new_holders q None) same) ∙ cells_taken.own in
             let n : owner ≡ i = cc in omega (arith, n, lt)
 
+        narrow : (q owner : ℕ) → get_or new_holders q None ≡ Some owner → (q < number) ⊎ (number ≤ q) → (number < q) ⊎ (q ≤ number)
+            → length (kinds_at (pool_in owners holders limit width cells) owner) ≤ width
+        narrow q owner e (inl l) after = kept.narrow q owner (sym (cells_taken.others q (λ is. omega (arith, l, is))) ∙ e)
+        narrow q owner e (inr ge) (inl l) = kept.narrow q owner (sym (cells_taken.others q (λ is. omega (arith, l, is))) ∙ e)
+        narrow q owner e (inr ge) (inr le) = let same : number ≡ q = omega (arith, ge, le) in
+            let o : Some owner ≡ Some i = sym e ∙ sym (ap (λ q. get_or new_holders q None) same) ∙ cells_taken.own in
+            let n : owner ≡ i = cc in
+            subst (λ (ks : List AggKind). length ks ≤ width) (sym (ap (kinds_at (pool_in owners holders limit width cells)) n ∙ own_kinds owners holders limit width cells free kept i own lt is)) few
+
   -- ---- a slot is given back
 
-  module _ (number : ℕ) (out : finite.contains_key (slots_of (pool_in owners holders width cells) i) number ≡ true)
+  module _ (number : ℕ) (out : finite.contains_key (slots_of (pool_in owners holders limit width cells) i) number ≡ true)
       (here : get_or holders number None ≡ Some i) where
     pub some_held : 1 ≤ own.held
     some_held = by (cases_lt 0 own.held)
@@ -278,28 +292,29 @@ module _ (owners : List Owner) (holders : List (Option ℕ)) (width : ℕ) (cell
         by : (0 < own.held) ⊎ (own.held ≤ 0) → 1 ≤ own.held
         by (inl more) = more
         by (inr none) =
-            let count : own.held ≡ finite.len (slots_of (pool_in owners holders width cells) i) = (own_kept owners holders width cells free kept i own lt is).counted in
-            let zero_len : finite.len (slots_of (pool_in owners holders width cells) i) ≡ 0 = omega (arith, count, none) in
-            let empty = finite.empty_of_len (slots_of (pool_in owners holders width cells) i) zero_len in
+            let count : own.held ≡ finite.len (slots_of (pool_in owners holders limit width cells) i) = (own_kept owners holders limit width cells free kept i own lt is).counted in
+            let zero_len : finite.len (slots_of (pool_in owners holders limit width cells) i) ≡ 0 = omega (arith, count, none) in
+            let empty = finite.empty_of_len (slots_of (pool_in owners holders limit width cells) i) zero_len in
             let x : false ≡ true = sym (ap is_some (ap (λ (m : Slots). finite.get m number) empty ∙ finite.get-empty nat_cmp number)) ∙ out in cc
 
-    pub free_fits : (most_room cells_room free_room : ℕ) → HasRoom (most_of owners) width most_room cells_room free_room → length free + 1 ≤ free_room
+    pub free_fits : (most_room cells_room free_room : ℕ) → HasRoom (most_of owners) limit most_room cells_room free_room → length free + 1 ≤ free_room
     free_fits h c f room =
         let some : own.held ≤ out_of owners = subst (λ (o : Owner). o.held ≤ out_of owners) (sym is) (get_or-le-sum_by (λ (o : Owner). o.held) owners i own lt) in
         omega (arith, some, some_held, kept.all_numbers, kept.few_numbers, room.free_fit)
 
     before : Pool
-    before = pool_in owners holders width cells
+    before = pool_in owners holders limit width cells
 
     after : Pool
-    after = pool_in (set owners i (counted owners holders width cells free kept i own lt is (own.held - 1))) (set holders number None) width cells
+    after = pool_in (set owners i (counted owners holders limit width cells free kept i own lt is (own.held - 1))) (set holders number None) limit width cells
 
     vacated : Moved number before after
     unfolding before after
     vacated = record {
-      quotas = same_quotas owners holders width cells free kept i own lt is (own.held - 1);
-      kinds = same_kinds owners holders width cells free kept i own lt is (own.held - 1);
+      quotas = same_quotas owners holders limit width cells free kept i own lt is (own.held - 1);
+      kinds = same_kinds owners holders limit width cells free kept i own lt is (own.held - 1);
       width = refl;
+      stride = refl;
       others = λ q ne. get_or-set_other holders number q None None ne;
       rows = λ q few ne less le. refl;
     }
@@ -307,30 +322,31 @@ module _ (owners : List Owner) (holders : List (Option ℕ)) (width : ℕ) (cell
     gone : get_or (set holders number None) number None ≡ None
     gone = get_or-set_same holders number None None (in_range holders number i here)
 
-    pub gives : GivesBack (record { owner = i; number = number }) (pool_in owners holders width cells)
-        (pool_in (set owners i (counted owners holders width cells free kept i own lt is (own.held - 1))) (set holders number None) width cells)
+    pub gives : GivesBack (record { owner = i; number = number }) (pool_in owners holders limit width cells)
+        (pool_in (set owners i (counted owners holders limit width cells free kept i own lt is (own.held - 1))) (set holders number None) limit width cells)
     unfolding before after
     gives = record {
       quotas = vacated.quotas;
       kinds = vacated.kinds;
       width = refl;
-      own = goes number before after vacated (kinds_fit owners holders width cells free kept) i (not_held after i number gone);
-      others = λ other ne. stays number before after vacated (kinds_fit owners holders width cells free kept) other
+      own = goes number before after vacated kept.narrow i (not_held after i number gone);
+      others = λ other ne. stays number before after vacated kept.narrow other
           (not_held after other number gone ∙ sym (other_held before i other number here ne));
     }
 
-    pub given_kept : IsKept (set owners i (counted owners holders width cells free kept i own lt is (own.held - 1)))
-        (pool_in (set owners i (counted owners holders width cells free kept i own lt is (own.held - 1))) (set holders number None) width cells) (free ++ number ∷ [])
+    pub given_kept : IsKept (set owners i (counted owners holders limit width cells free kept i own lt is (own.held - 1)))
+        (pool_in (set owners i (counted owners holders limit width cells free kept i own lt is (own.held - 1))) (set holders number None) limit width cells) (free ++ number ∷ [])
     unfolding before after
-    given_kept = kept_after owners holders width cells free kept i own lt is (own.held - 1) (set holders number None) cells (free ++ number ∷ [])
-        (finite.remove (slots_of before i) number) gives len (omega (arith, (own_kept owners holders width cells free kept i own lt is).within))
-        (λ q owner e. known q owner e (cases_lt q number) (cases_lt number q)) (more_free holders free number i kept.free_are here)
+    given_kept = kept_after owners holders limit width cells free kept i own lt is (own.held - 1) (set holders number None) cells (free ++ number ∷ [])
+        (finite.remove (slots_of before i) number) gives len (omega (arith, (own_kept owners holders limit width cells free kept i own lt is).within))
+        (λ q owner e. known q owner e (cases_lt q number) (cases_lt number q)) (λ q owner e. narrow q owner e (cases_lt q number) (cases_lt number q))
+        (more_free holders free number i kept.free_are here)
         (kept.all_cells ∙ ap (λ n. n * width) (sym (length-set holders number None)))
-        (omega (arith, length-set holders number None, length-append free (number ∷ []), kept.all_numbers, some_held, out_set owners holders width cells free kept i own lt is (own.held - 1)))
+        (omega (arith, length-set holders number None, length-append free (number ∷ []), kept.all_numbers, some_held, out_set owners holders limit width cells free kept i own lt is (own.held - 1)))
         (omega (arith, length-set holders number None, kept.few_numbers))
       where
         len : own.held - 1 ≡ finite.len (finite.remove (slots_of before i) number)
-        len = ap (λ n. n - 1) (own_kept owners holders width cells free kept i own lt is).counted
+        len = ap (λ n. n - 1) (own_kept owners holders limit width cells free kept i own lt is).counted
             ∙ sym (ap (λ b. cond b (finite.len (slots_of before i) - 1) (finite.len (slots_of before i))) out)
             ∙ sym (finite.len-remove nat_cmp_total (slots_of before i) number)
 
@@ -341,6 +357,13 @@ module _ (owners : List Owner) (holders : List (Option ℕ)) (width : ℕ) (cell
         known q owner e (inl l) after = other q owner e (λ is. omega (arith, l, is))
         known q owner e (inr ge) (inl l) = other q owner e (λ is. omega (arith, l, is))
         known q owner e (inr ge) (inr le) = let same : number ≡ q = omega (arith, ge, le) in
+            absurd (none_some (sym gone ∙ ap (λ q. get_or (set holders number None) q None) same ∙ e))
+
+        narrow : (q owner : ℕ) → get_or (set holders number None) q None ≡ Some owner → (q < number) ⊎ (number ≤ q) → (number < q) ⊎ (q ≤ number)
+            → length (kinds_at (pool_in owners holders limit width cells) owner) ≤ width
+        narrow q owner e (inl l) after = kept.narrow q owner (sym (get_or-set_other holders number q None None (λ is. omega (arith, l, is))) ∙ e)
+        narrow q owner e (inr ge) (inl l) = kept.narrow q owner (sym (get_or-set_other holders number q None None (λ is. omega (arith, l, is))) ∙ e)
+        narrow q owner e (inr ge) (inr le) = let same : number ≡ q = omega (arith, ge, le) in
             absurd (none_some (sym gone ∙ ap (λ q. get_or (set holders number None) q None) same ∙ e))
 
 -- ---- a slot that is out

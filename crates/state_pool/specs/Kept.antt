@@ -6,7 +6,7 @@ use Rattle.agg_laws.specs.declared.aggregate_kind.AggKind.{AggKind}
 use Rattle.agg_laws.specs.declared.states.AggState.{AggState}
 use Rattle.agg_laws.specs.Rows.{units_of}
 use Rattle.state_pool.specs.declared.pool.Owner.{Owner}
-use Rattle.state_pool.specs.Pool.{Pool, held}
+use Rattle.state_pool.specs.Pool.{Pool, held, kinds_at}
 
 -- how many slots owners may hold, and how many they hold
 abbrev pub most_of : List Owner → ℕ
@@ -25,12 +25,13 @@ abbrev pub with_part : List AggState → ℕ → ℕ → List AggState → List 
 with_part cells from count states = take from cells ++ (states ++ drop (from + count) cells)
 
 -- the pool that is kept
-abbrev pub pool_in : List Owner → List (Option ℕ) → ℕ → List AggState → Pool
-pool_in owners holders width cells = record {
+abbrev pub pool_in : List Owner → List (Option ℕ) → ℕ → ℕ → List AggState → Pool
+pool_in owners holders width stride cells = record {
   quotas = map (λ owner. owner.quota) owners;
   kinds = map (λ owner. owner.kinds) owners;
   holders = holders;
   width = width;
+  stride = stride;
   cells = cells;
 }
 
@@ -54,6 +55,17 @@ pub record HasRoom (slots width holders_room cells_room free_room : ℕ) : Type 
   pub holders_fit : slots ≤ holders_room
   pub cells_fit : slots * width ≤ cells_room
   pub free_fit : slots ≤ free_room
+
+-- so many rows have as many cells each as is wanted, or as they had where these are more, and each
+-- has its cells in the first places
+pub record Widens (count width wanted new_width : ℕ) (cells new_cells : List AggState) : Type 0
+  where
+    pub enough : wanted ≤ new_width
+    pub grows : width ≤ new_width
+    pub least : (most : ℕ) → width ≤ most → wanted ≤ most → new_width ≤ most
+    pub rows : (number few : ℕ) → number < count → few ≤ width
+        → part_of new_cells (number * new_width) few ≡ part_of cells (number * width) few
+    pub all_cells : length new_cells ≡ count * new_width
 
 -- an owner has a number more, which nobody had, with the states of no value in its first cells
 pub record TakesCells (owner width : ℕ) (kinds : List AggKind) (number : ℕ)
@@ -80,7 +92,10 @@ pub record IsKept (owners : List Owner) (pool : Pool) (free : List ℕ) : Type 0
       → IsOwner pool at (slice_index_or owners at default)
   pub known : (number owner : ℕ) → slice_index_or pool.holders number None ≡ Some owner
       → owner < length owners
+  pub narrow : (number owner : ℕ) → slice_index_or pool.holders number None ≡ Some owner
+      → length (kinds_at pool owner) ≤ pool.stride
+  pub within : pool.stride ≤ pool.width
   pub free_are : AreFree pool.holders free
-  pub all_cells : length pool.cells ≡ length pool.holders * pool.width
+  pub all_cells : length pool.cells ≡ length pool.holders * pool.stride
   pub all_numbers : length pool.holders ≡ out_of owners + length free
   pub few_numbers : length pool.holders ≤ most_of owners

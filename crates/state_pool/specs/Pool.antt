@@ -18,12 +18,14 @@ pub record Place : Type 0 where
   pub number : ℕ
 
 -- for each owner how many slots it may hold and the kinds of its states; for each number whose slot
--- it is, if it is out; and the cells of all numbers, so many each
+-- it is, if it is out; how many cells a number may have; and the cells of all numbers, so many each
+-- so far
 pub record Pool : Type 0 where
   pub quotas : List ℕ
   pub kinds : List (List AggKind)
   pub holders : List (Option ℕ)
   pub width : ℕ
+  pub stride : ℕ
   pub cells : List AggState
 
 -- how many slots an owner may hold
@@ -46,7 +48,7 @@ is_held pool owner number = is_of owner (slice_index_or pool.holders number None
 -- the first cells of a number, one for each kind of the owner's states
 abbrev pub row_of : Pool → ℕ → ℕ → List AggState
 row_of pool owner number =
-    take (length (kinds_at pool owner)) (drop (number * pool.width) pool.cells)
+    take (length (kinds_at pool owner)) (drop (number * pool.stride) pool.cells)
 
 -- the slots of an owner with numbers below one
 abbrev pub slots_below : Pool → ℕ → ℕ → Slots
@@ -103,7 +105,8 @@ with_state pool slot at state = record {
   kinds = pool.kinds;
   holders = pool.holders;
   width = pool.width;
-  cells = slice_set pool.cells (slot.number * pool.width + at) state;
+  stride = pool.stride;
+  cells = slice_set pool.cells (slot.number * pool.stride + at) state;
 }
 
 -- an owner has slots of these kinds from now on, and the rest of the pool is as it was

@@ -6,6 +6,7 @@ mod laws;
 mod pool;
 mod slot;
 mod units;
+mod wide;
 
 pub use laws::pool_law;
 pub use pool::SlotPool;

@@ -13,6 +13,7 @@ ghost use Rattle.state_pool.specs.Lent.{LendsState};
 use crate::cells::{add_cells, copy_cells, merge_cells, merge_part};
 use crate::slot::Slot;
 use crate::units::{add_spare, add_units, write_units};
+use crate::wide::widen;
 use agg_laws::{AggKind, AggState, Kinds, NoMemory};
 use data_types::Seq;
 use state_columns::{StateRow, put_all};
@@ -34,6 +35,7 @@ pub struct SlotPool {
     owners: Vec<Owner>,
     holders: Vec<Option<u16>>,
     width: usize,
+    stride: usize,
     cells: Vec<AggState>,
     free: Vec<u32>,
 }
@@ -45,11 +47,12 @@ impl Model for SlotPool {
 
     ghost Value = { Pool };
 
-    ghost view = { λ p. pool_in p.owners.items p.holders.items p.width p.cells.items };
+    ghost view = { λ p. pool_in p.owners.items p.holders.items p.width p.stride p.cells.items };
 
     ghost invariant = { λ p.
-        IsKept p.owners.items (pool_in p.owners.items p.holders.items p.width p.cells.items)
-        p.free.items × HasRoom (most_of p.owners.items) p.width (vec_capacity p.holders)
+        IsKept p.owners.items
+        (pool_in p.owners.items p.holders.items p.width p.stride p.cells.items) p.free.items
+        × HasRoom (most_of p.owners.items) p.width (vec_capacity p.holders)
         (vec_capacity p.cells) (vec_capacity p.free) };
 }
 
@@ -66,6 +69,7 @@ impl SlotPool {
             owners: owners_of(alloc, kinds, quotas.as_slice())?,
             holders: Vec::with_capacity(alloc, slots)?,
             width: kinds.len(),
+            stride: 0,
             cells: Vec::with_capacity(alloc, slots * kinds.len())?,
             free: Vec::with_capacity(alloc, slots)?,
         })
@@ -119,11 +123,13 @@ impl SlotPool {
             return None;
         }
         own.held += 1;
+        let count = self.holders.len();
+        self.stride = widen(&mut self.cells, count, self.stride, own.kinds.len());
         let number = take_number(
             &mut self.holders,
             &mut self.cells,
             &mut self.free,
-            self.width,
+            self.stride,
             owner,
             own.kinds.as_slice(),
         );
@@ -146,7 +152,7 @@ impl SlotPool {
         requires at { at < length (kinds_at self.now slot.now.owner) }
         ensures { slice_get (states_at self.now slot.now) at ≡ Some result.now }
     {
-        &self.cells[slot.number as usize * self.width + at as usize]
+        &self.cells[slot.number as usize * self.stride + at as usize]
     }
 
     /// The state in a place of a slot, to be changed. No other slot changes.
@@ -159,7 +165,7 @@ impl SlotPool {
             (slice_set (states_at self.old slot.now) at state) self.old
             (with_state self.old slot.now at state) }
     {
-        &mut self.cells[slot.number as usize * self.width + at as usize]
+        &mut self.cells[slot.number as usize * self.stride + at as usize]
     }
 
     /// One more value in each place of a slot. No other slot changes.
@@ -171,7 +177,7 @@ impl SlotPool {
         ensures { let own = states_at self.old slot.now in Writes slot.now
             (merged_rows own (row_of (kinds_of own) (values.now ∷ []))) self.old self.new }
     {
-        let from = slot.number as usize * self.width;
+        let from = slot.number as usize * self.stride;
         add_cells(self.cells.as_mut_slice(), from, values);
     }
 
@@ -184,7 +190,7 @@ impl SlotPool {
         ensures { Writes slot.now (merged_rows (states_at self.old slot.now) states.now)
             self.old self.new }
     {
-        let from = slot.number as usize * self.width;
+        let from = slot.number as usize * self.stride;
         merge_cells(self.cells.as_mut_slice(), from, states.as_slice());
     }
 
@@ -202,8 +208,8 @@ impl SlotPool {
             (states_at self.old from.now)) self.old self.new }
     {
         let count = self.owners[slot.owner as usize].kinds.len();
-        let into = slot.number as usize * self.width;
-        let from = from.number as usize * self.width;
+        let into = slot.number as usize * self.stride;
+        let from = from.number as usize * self.stride;
         merge_part(self.cells.as_mut_slice(), into, from, count);
     }
 
@@ -216,7 +222,7 @@ impl SlotPool {
             ≡ length (kinds_at self.now slot.now.owner) }
     {
         let count = self.owners[slot.owner as usize].kinds.len();
-        let from = slot.number as usize * self.width;
+        let from = slot.number as usize * self.stride;
         into.extend_from_slice(&self.cells[from..from + count])
     }
 
@@ -226,7 +232,7 @@ impl SlotPool {
         requires length { length states.now ≡ length (kinds_at self.old slot.now.owner) }
         ensures { Writes slot.now states.now self.old self.new }
     {
-        let from = slot.number as usize * self.width;
+        let from = slot.number as usize * self.stride;
         copy_cells(self.cells.as_mut_slice(), from, states);
     }
 }
@@ -277,8 +283,8 @@ fn take_number(
         cells.old.items cells.new.items }
     ensures numbers { TakesNumber holders.old.items holders.new.items free.old.items
         free.new.items }
-    ensures room { (slots : ℕ) → HasRoom slots width (vec_capacity holders.old)
-        (vec_capacity cells.old) (vec_capacity free.old) → HasRoom slots width
+    ensures room { (slots most : ℕ) → HasRoom slots most (vec_capacity holders.old)
+        (vec_capacity cells.old) (vec_capacity free.old) → HasRoom slots most
         (vec_capacity holders.new) (vec_capacity cells.new) (vec_capacity free.new) }
 {
     if let Some(number) = free.pop() {

@@ -9,22 +9,22 @@ use Rattle.state_pool.proofs.pool.SlotPool.put_states.Goals as goal
 pub overflow_mul-from : goal.overflow_mul-from
 overflow_mul-from c =
     let s = c.self.inside in
-    let row = seen_row s.owners.items s.holders.items s.width s.cells.items s.free.items c.self.invariant.0 c.args.self.now c.self.view_is c.slot.inside.owner c.slot.inside.number c.args.slot.now c.slot.view_is c.requires.out in
+    let row = seen_row s.owners.items s.holders.items s.width s.stride s.cells.items s.free.items c.self.invariant.0 c.args.self.now c.self.view_is c.slot.inside.owner c.slot.inside.number c.args.slot.now c.slot.view_is c.requires.out in
     search (rules, row)
 
 pub copy_cells-requires : goal.copy_cells-requires
 copy_cells-requires c =
     let s = c.self.inside in
-    omega (arith, seen_row s.owners.items s.holders.items s.width s.cells.items s.free.items c.self.invariant.0 c.args.self.now c.self.view_is c.slot.inside.owner c.slot.inside.number c.args.slot.now c.slot.view_is c.requires.out, ap length c.as_mut_slice.ensures.value, c.requires.length)
+    omega (arith, seen_row s.owners.items s.holders.items s.width s.stride s.cells.items s.free.items c.self.invariant.0 c.args.self.now c.self.view_is c.slot.inside.owner c.slot.inside.number c.args.slot.now c.slot.view_is c.requires.out, ap length c.as_mut_slice.ensures.value, c.requires.length)
 
 pub invariant_of-self : goal.invariant_of-self
 invariant_of-self c =
     let s = c.self.inside in
     let len : length c.copy_cells.new.cells ≡ s.cells.len = omega (arith, c.copy_cells.auto.cells, ap length c.as_mut_slice.ensures.value, s.cells.ok.0) in
     let cells = with_items_is s.cells c.copy_cells.new.cells len ∙ c.copy_cells.ensures
-    ∙ (λ i. with_part (c.as_mut_slice.ensures.value i) (c.slot.inside.number * s.width) (length c.args.states.now) c.args.states.now) in (
-      subst (λ (cs : List AggState). IsKept s.owners.items (pool_in s.owners.items s.holders.items s.width cs) s.free.items) (sym cells)
-          (seen_row_kept s.owners.items s.holders.items s.width s.cells.items s.free.items c.self.invariant.0 c.args.self.now c.self.view_is c.slot.inside.owner c.slot.inside.number c.args.slot.now c.slot.view_is c.requires.out c.args.states.now (length c.args.states.now) c.requires.length refl),
+    ∙ (λ i. with_part (c.as_mut_slice.ensures.value i) (c.slot.inside.number * s.stride) (length c.args.states.now) c.args.states.now) in (
+      subst (λ (cs : List AggState). IsKept s.owners.items (pool_in s.owners.items s.holders.items s.width s.stride cs) s.free.items) (sym cells)
+          (seen_row_kept s.owners.items s.holders.items s.width s.stride s.cells.items s.free.items c.self.invariant.0 c.args.self.now c.self.view_is c.slot.inside.owner c.slot.inside.number c.args.slot.now c.slot.view_is c.requires.out c.args.states.now (length c.args.states.now) c.requires.length refl),
       c.self.invariant.1,
     )
 
@@ -33,6 +33,6 @@ returns c =
     let s = c.self.inside in
     let len : length c.copy_cells.new.cells ≡ s.cells.len = omega (arith, c.copy_cells.auto.cells, ap length c.as_mut_slice.ensures.value, s.cells.ok.0) in
     let cells = with_items_is s.cells c.copy_cells.new.cells len ∙ c.copy_cells.ensures
-    ∙ (λ i. with_part (c.as_mut_slice.ensures.value i) (c.slot.inside.number * s.width) (length c.args.states.now) c.args.states.now) in
-    subst (λ (cs : List AggState). Writes c.args.slot.now c.args.states.now c.args.self.now (pool_in s.owners.items s.holders.items s.width cs)) (sym cells)
-    (seen_rewrites s.owners.items s.holders.items s.width s.cells.items s.free.items c.self.invariant.0 c.args.self.now c.self.view_is c.slot.inside.owner c.slot.inside.number c.args.slot.now c.slot.view_is c.requires.out c.args.states.now (length c.args.states.now) c.requires.length refl)
+    ∙ (λ i. with_part (c.as_mut_slice.ensures.value i) (c.slot.inside.number * s.stride) (length c.args.states.now) c.args.states.now) in
+    subst (λ (cs : List AggState). Writes c.args.slot.now c.args.states.now c.args.self.now (pool_in s.owners.items s.holders.items s.width s.stride cs)) (sym cells)
+    (seen_rewrites s.owners.items s.holders.items s.width s.stride s.cells.items s.free.items c.self.invariant.0 c.args.self.now c.self.view_is c.slot.inside.owner c.slot.inside.number c.args.slot.now c.slot.view_is c.requires.out c.args.states.now (length c.args.states.now) c.requires.length refl)
