@@ -2,12 +2,11 @@
 ghost use Rattle.std.specs.Prelude.{◌≡◌, ◌≤◌, ◌<◌, ℕ, IfOk, None, get_or, length, map, pos};
 ghost use Rattle.std.specs.List.{list_any};
 ghost use Rattle.values.specs.declared.value.Value.TheVariants as value;
-ghost use Rattle.segment_plan.specs.Matched as plan;
 ghost use Rattle.segment_opening.specs.Found as spec;
 
 use outside::Seq;
 use segment_head::{Matched, NoMemory};
-use segment_plan::are_consecutive;
+use segment_plan::{are_consecutive, is_on};
 use std::alloc::Global;
 use table_schema::{Conjunct, Wide};
 use value_ids::{IdSet, complement_of};
@@ -73,16 +72,6 @@ fn count_for(conjuncts: &[Conjunct], found: &[Matched], column: u16) -> Option<u
         }
     }
     None
-}
-
-// The conjunct names the column alone.
-fn is_on(conjunct: &Conjunct, column: u16) -> bool
-    ensures { result ≡ plan.is_on column conjunct.now }
-{
-    match conjunct {
-        Conjunct::One(named, _) => *named == column,
-        Conjunct::Many(_) => false,
-    }
 }
 
 // The conjuncts that ask for what was found for others.

@@ -19,7 +19,7 @@ pub use laws::{
     empty_law, explained_law, factors_over_law, head_tells_law, one_factors_law, one_plan_law,
     plan_over_law, pruned_law,
 };
-pub use matching::is_filtered;
+pub use matching::{is_filtered, is_on};
 pub use named::named_columns;
 pub use planning::plan;
 pub use plans::{IndexChoice, ScanPlan, SegmentPlan};

@@ -35,8 +35,8 @@ pub(crate) fn matched(
     Ok(count_shared(sets))
 }
 
-// The conjunct names the column alone.
-fn is_on(conjunct: &Conjunct, column: u16) -> bool
+/// Whether the conjunct names the column alone.
+pub fn is_on(conjunct: &Conjunct, column: u16) -> bool
     ensures { result ≡ spec.is_on column conjunct.now }
 {
     match conjunct {
