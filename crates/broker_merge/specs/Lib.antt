@@ -4,4 +4,5 @@ pub mod Ranked
 pub mod Having
 pub mod Answer
 pub mod Reply
+pub mod Counted
 pub mod Written

@@ -1,4 +1,5 @@
-//! Laws of the order of groups. They are the contract of a function that does nothing.
+//! Laws of the order of groups, and of replies. Each is the contract of a function that does
+//! nothing.
 
 ghost use Rattle.std.specs.Prelude.{◌≡◌, List, IsPermutation};
 ghost use Rattle.std.specs.Cmp.{IsTotalOrder};
@@ -10,6 +11,7 @@ ghost use Rattle.std.specs.declared.cmp.Ordering.TheVariants.{Equal};
 ghost use Rattle.table_schema.specs.declared.query.OrderKey.{OrderKey};
 ghost use Rattle.group_table.specs.Groups.{Group, key_order};
 ghost use Rattle.group_table.specs.Kept.{key_eq};
+ghost use Rattle.broker_merge.specs.Counted.{PlainAsEver};
 ghost use Rattle.broker_merge.specs.Order.{group_order, in_order};
 
 /// The order of groups is total, and only groups of one key tie. Groups in order are the same
@@ -27,4 +29,9 @@ pub fn order_law()
         → IsDistinct key_eq (keys_of groups)
         → in_order order (finite.entries (finite.from_entries {R = key_order} groups))
         ≡ in_order order groups }
+{}
+
+/// Where a query counts no distinct values, its reply is the one over its groups as they are.
+pub fn plain_law()
+    ensures { PlainAsEver }
 {}

@@ -12,7 +12,7 @@ mod stretch;
 mod text;
 
 pub use answer::{Answer, Cell};
-pub use laws::order_law;
+pub use laws::{order_law, plain_law};
 pub use order::ordered;
 pub use rows::finish;
 pub use text::answer_text;

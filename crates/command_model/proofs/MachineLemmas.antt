@@ -199,6 +199,7 @@ none_refused stored stands (note.BadCsv wrong row column) h = absurd h
 none_refused stored stands (note.TooLarge what limit) h = absurd h
 none_refused stored stands (note.BadQuery wrong place) h = absurd h
 none_refused stored stands (note.TooManyGroups most) h = absurd h
+none_refused stored stands (note.TooManyDistinct most) h = absurd h
 none_refused stored stands (note.CursorTaken cursor) h = absurd h
 none_refused stored stands (note.NoCursor cursor) h = absurd h
 none_refused stored stands (note.NotASegment name part) (inl w) = let (bytes, got, none) = w.wrong in none_there stored stands (bytes, got)
@@ -229,6 +230,7 @@ module _ (stored : Files) (texts : state.Texts) (segments : Segments) (stands : 
   some_refused (note.TooLarge what limit) h = absurd h
   some_refused (note.BadQuery wrong place) h = absurd h
   some_refused (note.TooManyGroups most) h = absurd h
+  some_refused (note.TooManyDistinct most) h = absurd h
   some_refused (note.CursorTaken cursor) h = absurd h
   some_refused (note.NoCursor cursor) h = absurd h
   some_refused (note.NotASegment name part) (inl w) = table_right w.wrong
@@ -476,6 +478,7 @@ module _ (stored : Files) (texts : state.Texts) (segments : Segments) (stands : 
   fault_reply about names sql (query.BadQuery wrong place) is = text_wrong about names sql (query.BadQuery wrong place) is
   fault_reply about names sql (query.Unbound wrong place) is = text_wrong about names sql (query.Unbound wrong place) is
   fault_reply about names sql (query.TooManyGroups most) is = is
+  fault_reply about names sql (query.TooManyDistinct most) is = is
   fault_reply about names sql query.NoMemory is = absurd is
 
 module _ (stored : Files) (texts : state.Texts) (segments : Segments) (stands : Stands stored (HasTable texts segments)) where

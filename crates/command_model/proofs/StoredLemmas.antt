@@ -106,6 +106,7 @@ table_segments files (note.BadCsv wrong row column) h = absurd h
 table_segments files (note.TooLarge what limit) h = absurd h
 table_segments files (note.BadQuery wrong place) h = absurd h
 table_segments files (note.TooManyGroups most) h = absurd h
+table_segments files (note.TooManyDistinct most) h = absurd h
 table_segments files (note.CursorTaken cursor) h = absurd h
 table_segments files (note.NoCursor cursor) h = absurd h
 table_segments files (note.NotASegment name part) h = inl h

@@ -75,6 +75,7 @@ scan_refuses (note.TooLarge what limit) = scan_counts what
 scan_refuses (note.BadCsv wrong row column) = true
 scan_refuses (note.BadQuery wrong place) = true
 scan_refuses (note.TooManyGroups most) = true
+scan_refuses (note.TooManyDistinct most) = true
 scan_refuses other = false
 
 -- the limit of a file in JSON
@@ -187,6 +188,7 @@ abbrev pub sql_refuses : About → Note → Bool
 sql_refuses about (note.TooLarge what limit) = sql_counts what
 sql_refuses about (note.BadQuery wrong place) = true
 sql_refuses about (note.TooManyGroups most) = makes_groups about
+sql_refuses about (note.TooManyDistinct most) = makes_groups about
 sql_refuses about other = false
 
 -- the refusals of `query`, `explain` and `stats`

@@ -63,6 +63,9 @@ abbrev pub IsFaultOf : About → Table → Files → List (List ℕ) → List �
 IsFaultOf about table files names sql
     (fault.TooManyGroups most) = HasReply about table files names sql
     (Err (fault.TooManyGroups most))
+IsFaultOf about table files names sql
+    (fault.TooManyDistinct most) = HasReply about table files names sql
+    (Err (fault.TooManyDistinct most))
 IsFaultOf about table files names sql fault.NoMemory = ⊥
 IsFaultOf about table files names sql wrong = asked table false sql ≡ Err wrong
 

@@ -16,7 +16,7 @@ use Rattle.command_words.specs.declared.bad_query.QueryReason.TheVariants as rea
 use Rattle.command_words.specs.declared.note.Counted.{Counted}
 use Rattle.command_words.specs.declared.note.Counted.TheVariants as counted
 use Rattle.command_words.specs.declared.note.Note.{Note}
-use Rattle.command_words.specs.declared.note.Note.TheVariants.{BadCsv, BadQuery, BadSchema, BadSettings, BadWords, CursorTaken, NameTaken, NoCursor, NoInput, NoSegment, NoTable, TableExists, TooLarge, TooManyGroups, NotASegment}
+use Rattle.command_words.specs.declared.note.Note.TheVariants.{BadCsv, BadQuery, BadSchema, BadSettings, BadWords, CursorTaken, NameTaken, NoCursor, NoInput, NoSegment, NoTable, TableExists, TooLarge, TooManyDistinct, TooManyGroups, NotASegment}
 use Rattle.command_words.specs.declared.fault.Fault.{Fault}
 use Rattle.command_words.specs.declared.fault.Fault.TheVariants as fault
 use Rattle.command_words.specs.declared.status.Status.{Status}
@@ -43,6 +43,7 @@ code_of status.WriteFault = 16
 code_of status.NoMemory = 17
 code_of status.CursorTaken = 18
 code_of status.NoCursor = 19
+code_of status.TooManyDistinct = 21
 
 -- whether a status tells of a device that failed or of want of memory
 abbrev pub is_fault : Status → Bool
@@ -65,6 +66,7 @@ status_of (BadCsv wrong row column) = status.BadCsv
 status_of (TooLarge what limit) = status.TooLarge
 status_of (BadQuery wrong place) = status.BadQuery
 status_of (TooManyGroups most) = status.TooManyGroups
+status_of (TooManyDistinct most) = status.TooManyDistinct
 status_of (NotASegment name part) = status.NotASegment
 status_of (CursorTaken cursor) = status.CursorTaken
 status_of (NoCursor cursor) = status.NoCursor
@@ -77,6 +79,7 @@ path_text path = if length path == 0 then [] else codes " at " ++ path
 abbrev pub reason_text : QueryReason → List ℕ
 reason_text (reason.Parse wrong) = parse_text wrong
 reason_text (reason.Bind wrong) = bind_text wrong
+reason_text reason.NotServed = codes "NotServed"
 
 -- the name of what passes its limit
 abbrev pub counted_text : Counted → List ℕ
@@ -109,6 +112,7 @@ note_text (TooLarge what limit) = codes "too large: " ++ counted_text what ++ co
 note_text (BadQuery wrong place) = codes "bad query: " ++ reason_text wrong ++ codes " at "
     ++ decimal place ++ codes "\n"
 note_text (TooManyGroups most) = codes "too many groups, limit " ++ decimal most ++ codes "\n"
+note_text (TooManyDistinct most) = codes "too many distinct, limit " ++ decimal most ++ codes "\n"
 note_text (NotASegment name part) = codes "not a segment: " ++ name ++ codes ", part " ++ part
     ++ codes "\n"
 note_text (CursorTaken cursor) = codes "cursor taken: " ++ cursor ++ codes "\n"
@@ -128,6 +132,7 @@ sql_note (query.LongQuery most) = TooLarge counted.SqlBytes most
 sql_note (query.BadQuery wrong place) = BadQuery (reason.Parse wrong) place
 sql_note (query.Unbound wrong place) = BadQuery (reason.Bind wrong) place
 sql_note (query.TooManyGroups most) = TooManyGroups most
+sql_note (query.TooManyDistinct most) = TooManyDistinct most
 sql_note query.NoMemory = TooManyGroups 0
 
 -- the note line of a fault

@@ -10,6 +10,8 @@ pub enum QueryReason {
     Parse(Reason),
     /// A name, a type or a number of its parts is refused.
     Bind(BindReason),
+    /// It counts distinct values, which no cursor does.
+    NotServed,
 }
 
 impl QueryReason {
@@ -23,6 +25,7 @@ impl QueryReason {
         match self {
             QueryReason::Parse(reason) => reason.text(),
             QueryReason::Bind(reason) => reason.text(),
+            QueryReason::NotServed => b"NotServed",
         }
     }
 }

@@ -28,6 +28,7 @@ pub fn status_of(note: &Note) -> Status
         Note::TooLarge(_, _) => Status::TooLarge,
         Note::BadQuery(_, _) => Status::BadQuery,
         Note::TooManyGroups(_) => Status::TooManyGroups,
+        Note::TooManyDistinct(_) => Status::TooManyDistinct,
         Note::NotASegment(_, _) => Status::NotASegment,
         Note::CursorTaken(_) => Status::CursorTaken,
         Note::NoCursor(_) => Status::NoCursor,
@@ -100,6 +101,16 @@ fn groups_line(alloc: Global, most: u32) -> Result<Vec<u8>, AllocError>
     ensures { IfOk result (λ line. line.items ≡ spec.note_text (Note.TooManyGroups most)) }
 {
     let mut line = b"too many groups, limit ".to_vec(alloc)?;
+    push_number(alloc, &mut line, u64::from(most))?;
+    line.push(b'\n')?;
+    Ok(line)
+}
+
+// The line of a query that counts too many distinct values.
+fn distinct_line(alloc: Global, most: u32) -> Result<Vec<u8>, AllocError>
+    ensures { IfOk result (λ line. line.items ≡ spec.note_text (Note.TooManyDistinct most)) }
+{
+    let mut line = b"too many distinct, limit ".to_vec(alloc)?;
     push_number(alloc, &mut line, u64::from(most))?;
     line.push(b'\n')?;
     Ok(line)
@@ -195,6 +206,7 @@ pub fn note_line(alloc: Global, note: &Note) -> Result<Vec<u8>, AllocError>
         Note::TooLarge(what, limit) => limit_line(alloc, *what, *limit),
         Note::BadQuery(reason, place) => query_line(alloc, *reason, *place),
         Note::TooManyGroups(most) => groups_line(alloc, *most),
+        Note::TooManyDistinct(most) => distinct_line(alloc, *most),
         Note::NotASegment(name, part) => segment_line(alloc, name.as_slice(), part.as_slice()),
         Note::CursorTaken(name) => taken_line(alloc, name.as_slice()),
         Note::NoCursor(name) => absent_line(alloc, name.as_slice()),

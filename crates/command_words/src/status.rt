@@ -43,6 +43,8 @@ pub enum Status {
     CursorTaken,
     /// No cursor of this name is open.
     NoCursor,
+    /// A query counts too many distinct values.
+    TooManyDistinct,
 }
 
 impl Status {
@@ -70,6 +72,7 @@ impl Status {
             Status::NoMemory => 17,
             Status::CursorTaken => 18,
             Status::NoCursor => 19,
+            Status::TooManyDistinct => 21,
         }
     }
 }

@@ -62,6 +62,7 @@ module _ (name file : List ℕ) where
   place_caused inputs stored (note.TooLarge what limit) e tells told = absurd cc
   place_caused inputs stored (note.BadQuery wrong place) e tells told = absurd cc
   place_caused inputs stored (note.TooManyGroups most) e tells told = absurd cc
+  place_caused inputs stored (note.TooManyDistinct most) e tells told = absurd cc
   place_caused inputs stored (note.CursorTaken cursor) e tells told = absurd cc
   place_caused inputs stored (note.NoCursor cursor) e tells told = absurd cc
   place_caused inputs stored (note.NotASegment of part) e tells told =
@@ -81,6 +82,7 @@ module _ (name file : List ℕ) where
   place_looked i a b (note.TooLarge what limit) = λ e. refl
   place_looked i a b (note.BadQuery wrong place) = λ e. refl
   place_looked i a b (note.TooManyGroups most) = λ e. refl
+  place_looked i a b (note.TooManyDistinct most) = λ e. refl
   place_looked i a b (note.CursorTaken cursor) = λ e. refl
   place_looked i a b (note.NoCursor cursor) = λ e. refl
   place_looked i a b (note.NotASegment of part) = told_all a.held (λ files. OfFile (Some files) table_name IsNoTableFile → i ≡ i) (λ files none. refl)
@@ -211,6 +213,7 @@ module _ (name file : List ℕ) (i j a b : Seen) (table : Table) (place : FindsP
   line_so (note.TooLarge what limit) f = absurd f.stops
   line_so (note.BadQuery wrong place') f = absurd f.stops
   line_so (note.TooManyGroups most) f = absurd f.stops
+  line_so (note.TooManyDistinct most) f = absurd f.stops
   line_so (note.CursorTaken cursor) f = absurd f.stops
   line_so (note.NoCursor cursor) f = absurd f.stops
   line_so (note.NotASegment of part) f =

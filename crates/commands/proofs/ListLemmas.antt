@@ -66,6 +66,7 @@ caused_line inputs stored (note.BadCsv wrong row column) e h = absurd cc
 caused_line inputs stored (note.TooLarge what limit) e h = absurd cc
 caused_line inputs stored (note.BadQuery wrong place) e h = absurd cc
 caused_line inputs stored (note.TooManyGroups most) e h = absurd cc
+caused_line inputs stored (note.TooManyDistinct most) e h = absurd cc
 caused_line inputs stored (note.CursorTaken cursor) e h = absurd cc
 caused_line inputs stored (note.NoCursor cursor) e h = absurd cc
 caused_line inputs stored (note.NotASegment name part) e h = h

@@ -65,6 +65,7 @@ table_caused aim name inputs stored (note.BadCsv wrong row column) e h = absurd 
 table_caused aim name inputs stored (note.TooLarge what limit) e h = absurd cc
 table_caused aim name inputs stored (note.BadQuery wrong place) e h = absurd cc
 table_caused aim name inputs stored (note.TooManyGroups most) e h = absurd cc
+table_caused aim name inputs stored (note.TooManyDistinct most) e h = absurd cc
 table_caused aim name inputs stored (note.CursorTaken cursor) e h = absurd cc
 table_caused aim name inputs stored (note.NoCursor cursor) e h = absurd cc
 table_caused aim name inputs stored (note.NotASegment of part) e h =
@@ -191,6 +192,7 @@ module _ (aim : Aim) (name : List ℕ) (i a b d : Seen) (table : Table) (first :
   line_so (note.TooLarge what limit) f = absurd f.stops
   line_so (note.BadQuery wrong place) f = absurd f.stops
   line_so (note.TooManyGroups most) f = absurd f.stops
+  line_so (note.TooManyDistinct most) f = absurd f.stops
   line_so (note.CursorTaken cursor) f = absurd f.stops
   line_so (note.NoCursor cursor) f = absurd f.stops
   line_so (note.NotASegment of part) f =

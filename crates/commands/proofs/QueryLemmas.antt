@@ -61,6 +61,7 @@ table_query about sql files (note.BadCsv wrong row column) h = absurd h
 table_query about sql files (note.TooLarge what limit) h = absurd h
 table_query about sql files (note.BadQuery wrong place) h = absurd h
 table_query about sql files (note.TooManyGroups most) h = absurd h
+table_query about sql files (note.TooManyDistinct most) h = absurd h
 table_query about sql files (note.CursorTaken cursor) h = absurd h
 table_query about sql files (note.NoCursor cursor) h = absurd h
 table_query about sql files (note.NotASegment name part) h = inl h
@@ -177,6 +178,11 @@ module _ (about : About) (table : Table) (names : List (List ℕ)) (sql : List �
   with_groups most (inl of) = absurd of
   with_groups most (inr groups) = groups
 
+  -- nor too many distinct values
+  with_members : (most : ℕ) → IsOfText (query.TooManyDistinct most) ⊎ (makes_groups about ≡ true) → makes_groups about ≡ true
+  with_members most (inl of) = absurd of
+  with_members most (inr groups) = groups
+
   -- the query has no reply
   faulty : (wrong : SqlFault) → OnlyReads (IsErrOf (Unanswered (executor.Sql wrong)) executor.ReadFault) a b → (wrong ≢ query.NoMemory → IfSome a.held (λ files. HasReply about table files names sql (Err wrong)))
       → (IsOfText wrong → asked table false sql ≡ Err wrong) → (wrong ≢ query.NoMemory → IsOfText wrong ⊎ (makes_groups about ≡ true)) → AnswersQuery about sql a b (Err (sql_stop wrong))
@@ -188,6 +194,8 @@ module _ (about : About) (table : Table) (names : List (List ℕ)) (sql : List �
       stopped (stop.Refused (sql_note (query.Unbound wrong place))) reads (λ e. absurd cc) (λ e. absurd cc) (refl, no_reply (query.Unbound wrong place) (always (query.Unbound wrong place) by tt))
   faulty (query.TooManyGroups most) reads reply by of =
       stopped (stop.Refused (sql_note (query.TooManyGroups most))) reads (λ e. absurd cc) (λ e. absurd cc) (with_groups most (of (λ e. cc)), no_reply (query.TooManyGroups most) (reply (λ e. cc)))
+  faulty (query.TooManyDistinct most) reads reply by of =
+      stopped (stop.Refused (sql_note (query.TooManyDistinct most))) reads (λ e. absurd cc) (λ e. absurd cc) (with_members most (of (λ e. cc)), no_reply (query.TooManyDistinct most) (reply (λ e. cc)))
   faulty query.NoMemory reads reply by of = stopped (stop.Fault fault.Memory) reads (λ e. absurd cc) (λ e. absurd cc) tt
 
   -- the file of a segment is no image
@@ -238,6 +246,7 @@ caused_query inputs stored about sql (note.TooLarge counted.Segments limit) e h 
 caused_query inputs stored about sql (note.TooLarge what limit) e h = told_all inputs (λ files. Finds (Some (Ask about sql)) files stored (note.TooLarge what limit)) (λ files. h)
 caused_query inputs stored about sql (note.BadQuery wrong place) e h = told_all inputs (λ files. Finds (Some (Ask about sql)) files stored (note.BadQuery wrong place)) (λ files. h)
 caused_query inputs stored about sql (note.TooManyGroups most) e h = told_all inputs (λ files. Finds (Some (Ask about sql)) files stored (note.TooManyGroups most)) (λ files. h)
+caused_query inputs stored about sql (note.TooManyDistinct most) e h = told_all inputs (λ files. Finds (Some (Ask about sql)) files stored (note.TooManyDistinct most)) (λ files. h)
 caused_query inputs stored about sql (note.CursorTaken cursor) e h = absurd cc
 caused_query inputs stored about sql (note.NoCursor cursor) e h = absurd cc
 caused_query inputs stored about sql (note.NotASegment name part) e h = h

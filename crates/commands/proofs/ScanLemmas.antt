@@ -77,6 +77,7 @@ few_note (scan.LongQuery most) = refl
 few_note (scan.BadQuery wrong place) = refl
 few_note (scan.Unbound wrong place) = refl
 few_note (scan.TooManyGroups most) = refl
+few_note (scan.TooManyDistinct most) = refl
 few_note scan.NoMemory = refl
 
 few_line : (line : Note) → rows_refuse line ≡ true → scan_refuses line ≡ true
@@ -92,6 +93,7 @@ few_line (note.BadCsv wrong row column) e = refl
 few_line (note.TooLarge what limit) e = e
 few_line (note.BadQuery wrong place) e = refl
 few_line (note.TooManyGroups most) e = refl
+few_line (note.TooManyDistinct most) e = refl
 few_line (note.CursorTaken cursor) e = absurd cc
 few_line (note.NoCursor cursor) e = absurd cc
 few_line (note.NotASegment name part) e = absurd cc
@@ -110,6 +112,7 @@ few_caused file sql inputs stored (note.TooLarge counted.Segments limit) e told 
 few_caused file sql inputs stored (note.TooLarge what limit) e told = told_each inputs _ _ (λ files is. sym is) told
 few_caused file sql inputs stored (note.BadQuery wrong place) e told = told_each inputs _ _ (λ files is. sym is) told
 few_caused file sql inputs stored (note.TooManyGroups most) e told = told_each inputs _ _ (λ files is. sym is) told
+few_caused file sql inputs stored (note.TooManyDistinct most) e told = told_each inputs _ _ (λ files is. sym is) told
 few_caused file sql inputs stored (note.CursorTaken cursor) e told = absurd cc
 few_caused file sql inputs stored (note.NoCursor cursor) e told = absurd cc
 few_caused file sql inputs stored (note.NotASegment name part) e told = absurd cc

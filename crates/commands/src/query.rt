@@ -100,6 +100,7 @@ fn stop_of_text(fault: SqlFault) -> Stop
         SqlFault::BadQuery(reason, place) => Note::BadQuery(QueryReason::Parse(reason), place),
         SqlFault::Unbound(reason, place) => Note::BadQuery(QueryReason::Bind(reason), place),
         SqlFault::TooManyGroups(most) => Note::TooManyGroups(most),
+        SqlFault::TooManyDistinct(most) => Note::TooManyDistinct(most),
         SqlFault::NoMemory => return Stop::Fault(Fault::Memory),
     };
     Stop::Refused(note)

@@ -36,6 +36,7 @@ fn stop_of(fault: ScanFault) -> Stop
         ScanFault::BadQuery(reason, place) => Note::BadQuery(QueryReason::Parse(reason), place),
         ScanFault::Unbound(reason, place) => Note::BadQuery(QueryReason::Bind(reason), place),
         ScanFault::TooManyGroups(most) => Note::TooManyGroups(most),
+        ScanFault::TooManyDistinct(most) => Note::TooManyDistinct(most),
         ScanFault::NoMemory => return Stop::Fault(Fault::Memory),
     };
     Stop::Refused(note)

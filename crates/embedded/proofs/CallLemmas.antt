@@ -258,6 +258,7 @@ module _ (table : Table) (names : List (List ℕ)) (sql : List ℕ) (a b c : See
   unanswered (executor.Sql (query.BadQuery wrong place)) reply bad reads = wrong_so (query.BadQuery wrong place) (λ e. cc) (reply (query.BadQuery wrong place) refl (λ e. cc)) reads
   unanswered (executor.Sql (query.Unbound wrong place)) reply bad reads = wrong_so (query.Unbound wrong place) (λ e. cc) (reply (query.Unbound wrong place) refl (λ e. cc)) reads
   unanswered (executor.Sql (query.TooManyGroups most)) reply bad reads = wrong_so (query.TooManyGroups most) (λ e. cc) (reply (query.TooManyGroups most) refl (λ e. cc)) reads
+  unanswered (executor.Sql (query.TooManyDistinct most)) reply bad reads = wrong_so (query.TooManyDistinct most) (λ e. cc) (reply (query.TooManyDistinct most) refl (λ e. cc)) reads
   unanswered (executor.Sql query.NoMemory) reply bad reads = record {
     table = refl;
     answers = λ segments kept. tt;

@@ -48,7 +48,7 @@ any_map p f [] = refl
 any_map p f (x ∷ xs) = ap (λ b. p (f x) || b) (any_map p f xs)
 
 -- entries made from their keys have at a key what is made of it
-find_map : {S : Type 0} (make : List Value → S) (q : List Value) (ks : List (List Value)) → find key_order q (map (λ k. (k, make k)) ks) ≡ cond (list_any (eq_by_cmp key_order q) ks) (Some (make q)) None
+pub find_map : {S : Type 0} (make : List Value → S) (q : List Value) (ks : List (List Value)) → find key_order q (map (λ k. (k, make k)) ks) ≡ cond (list_any (eq_by_cmp key_order q) ks) (Some (make q)) None
 find_map make q [] = refl
 find_map {S} make q (k ∷ ks) = by (eq_by_cmp key_order q k) refl (find_map make q ks)
   where
@@ -57,7 +57,7 @@ find_map {S} make q (k ∷ ks) = by (eq_by_cmp key_order q k) refl (find_map mak
     by true t rest = ap (λ x. Some (make x)) (sym (tells_apart key_same q k t))
     by false t rest = rest
 
-any_key : (groups : List ℕ) (rows : List (List Value)) (q : List Value) → list_any (eq_by_cmp key_order q) (keys_of groups rows) ≡ is_key groups rows q
+pub any_key : (groups : List ℕ) (rows : List (List Value)) (q : List Value) → list_any (eq_by_cmp key_order q) (keys_of groups rows) ≡ is_key groups rows q
 any_key [] rows q = or_false (eq_by_cmp key_order q [])
 any_key (column ∷ columns) rows q = any_map (eq_by_cmp key_order q) (key_of (column ∷ columns)) rows
 

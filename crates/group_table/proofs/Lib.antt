@@ -8,3 +8,6 @@ pub mod NewKeys
 pub mod KeyPlaces
 mod AbsorbSteps
 pub mod SavedSteps
+pub mod PairLemmas
+pub mod CountedLemmas
+mod CountSteps

@@ -115,10 +115,10 @@ module _ (t : PooledTable) (old new : Pool) (table : IsTableIn t old) (key : Lis
   kept_kinds : kinds_at new t.owner ≡ kinds_at old t.owner
   kept_kinds = frames.same_kinds slot.owner _ old new writes t.owner
 
-  groups_are : map (group_in new) t.slots ≡ set_value (key_eq key) (map (group_in old) t.slots) w
+  pub groups_are : map (group_in new) t.slots ≡ set_value (key_eq key) (map (group_in old) t.slots) w
   groups_are = set_groups slot w old new writes t.owner own.owned key t.slots found table.holds.each table.holds.apart
 
-  holds_still : HoldsAll t new
+  pub holds_still : HoldsAll t new
   holds_still = record {
     known = subst (λ (qs : List ℕ). t.owner < length qs) (sym writes.quotas) table.holds.known;
     quota = table.holds.quota ∙ sym (frames.same_quota slot.owner _ old new writes t.owner);

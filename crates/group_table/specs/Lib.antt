@@ -4,3 +4,5 @@ pub mod Kept
 pub mod Pooled
 pub mod QueryPool
 pub mod Saved
+pub mod Counted
+pub mod Pairs

@@ -9,6 +9,7 @@ ghost use Rattle.values.specs.declared.value.Value.{Value};
 ghost use Rattle.group_table.specs.Groups.{Groups, groups_of, is_key, has_key, key_of, states_of};
 ghost use Rattle.group_table.specs.Groups.{Adds, Group, merged_in, with_entries};
 ghost use Rattle.group_table.specs.Kept.{key_eq};
+ghost use Rattle.group_table.specs.Pairs.{PairsAreMembers, PairsAreValues};
 ghost use Rattle.group_table.specs.Shape.{Shape};
 
 /// The groups of some rows have each key that a row has, with the aggregates of the rows that have
@@ -40,6 +41,14 @@ pub fn adds_law()
     ensures of_row { (shape : Shape) (row : List Value) (old : Groups)
         → Adds shape (row ∷ []) old
         (merged_in old (key_of shape.groups row) (states_of shape.aggs (row ∷ []))) }
+{}
+
+/// The pairs of a key and a value of a column, as groups of their own, are as many as each group
+/// has distinct values of the column, all groups together; and a key has as many of them as its
+/// rows have distinct values.
+pub fn pairs_law()
+    ensures members { PairsAreMembers }
+    ensures values { PairsAreValues }
 {}
 
 /// A table with the groups of some rows that absorbs one with the groups of others has the other

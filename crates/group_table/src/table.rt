@@ -31,7 +31,7 @@ use values::{NoMemory, Row, copy_row};
 /// has a place.
 #[derive(Drop)]
 pub struct GroupTable {
-    columns: usize,
+    pub(crate) columns: usize,
     pub(crate) owner: u16,
     most: u32,
     pub(crate) slots: IndexMap<Row, Slot>,

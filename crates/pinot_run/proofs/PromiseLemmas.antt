@@ -123,6 +123,7 @@ module _ (command : Option Command) (old : World) (new : Devices) where
   line_left (note.TooLarge what limit) now is = is
   line_left (note.BadQuery wrong place) now is = is
   line_left (note.TooManyGroups most) now is = is
+  line_left (note.TooManyDistinct most) now is = is
   line_left (note.CursorTaken cursor) now is = is
   line_left (note.NoCursor cursor) now is = is
   line_left (note.NotASegment name part) now is = is

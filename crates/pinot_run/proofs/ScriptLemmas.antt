@@ -86,6 +86,7 @@ line_not_done (note.BadCsv wrong row column) e = absurd cc
 line_not_done (note.TooLarge what limit) e = absurd cc
 line_not_done (note.BadQuery wrong place) e = absurd cc
 line_not_done (note.TooManyGroups most) e = absurd cc
+line_not_done (note.TooManyDistinct most) e = absurd cc
 line_not_done (note.CursorTaken cursor) e = absurd cc
 line_not_done (note.NoCursor cursor) e = absurd cc
 line_not_done (note.NotASegment name part) e = absurd cc

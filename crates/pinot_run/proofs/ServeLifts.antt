@@ -173,6 +173,7 @@ module _ (files : Files) (number : ℕ) (line : List ℕ) (old : Stage Kept) (st
   given_line (note.TooLarge what limit) new g = (g, refl)
   given_line (note.BadQuery wrong place) new g = (g, refl)
   given_line (note.TooManyGroups most) new g = (g, refl)
+  given_line (note.TooManyDistinct most) new g = (g, refl)
   given_line (note.NotASegment name part) new g = (g, refl)
   given_line (note.CursorTaken cursor) new g = (g, refl)
   given_line (note.NoCursor cursor) new g = (g, refl)

@@ -101,6 +101,7 @@ not_done (note.BadCsv wrong row column) e = absurd cc
 not_done (note.TooLarge what limit) e = absurd cc
 not_done (note.BadQuery wrong place) e = absurd cc
 not_done (note.TooManyGroups most) e = absurd cc
+not_done (note.TooManyDistinct most) e = absurd cc
 not_done (note.CursorTaken cursor) e = absurd cc
 not_done (note.NoCursor cursor) e = absurd cc
 not_done (note.NotASegment name part) e = absurd cc

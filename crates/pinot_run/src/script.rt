@@ -173,5 +173,6 @@ fn mark_of(said: Status) -> &'static [u8]
         Status::NoMemory => b"[17]\n",
         Status::CursorTaken => b"[18]\n",
         Status::NoCursor => b"[19]\n",
+        Status::TooManyDistinct => b"[21]\n",
     }
 }

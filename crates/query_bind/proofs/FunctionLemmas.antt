@@ -31,6 +31,7 @@ use Rattle.query_bind.specs.Bound.{Bound, Spelled, bound_of, bound, query_findin
 use Rattle.query_bind.proofs.Truth.{and_of, both}
 use Rattle.query_bind.proofs.PlaceLemmas.{answered}
 use Rattle.query_bind.proofs.TermLemmas.{meaning_is, aggs_are}
+use Rattle.query_bind.proofs.WithinLemmas.{known_in}
 use Rattle.query_bind.proofs.SpelledLemmas.{is_term, takes_argument, spelled_items, spelled_having, spelled_keys}
 use Rattle.table_schema.specs.ValidQuery.{agg_fits}
 use Rattle.table_schema.proofs.FirstLaws.{first_none, rest_none}
@@ -92,6 +93,8 @@ module _ (fields : List Field) where
   call_fits func.Max (argument.Column n) none star = on_numbers n (known func.Max n none) (taken func.Max n none)
   call_fits func.Avg argument.Star none star = star
   call_fits func.Avg (argument.Column n) none star = on_numbers n (known func.Avg n none) (taken func.Avg n none)
+  call_fits func.DistinctCount argument.Star none star = absurd (false≢true star)
+  call_fits func.DistinctCount (argument.Column n) none star = known_in fields n (first_none (column_finding fields n) _ none)
 
   term_fits : (t : Term) → term_finding fields t ≡ None → is_term t ≡ true → meaning_is (agg_fits fields) (meaning_of fields t) ≡ true
   term_fits (term.Column n) none own = refl

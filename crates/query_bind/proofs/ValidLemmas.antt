@@ -112,7 +112,7 @@ module _ (table : Table) (any_table : Bool) (q : Query) (b : Bound) (is : bound 
         many_differ = all_several table any_table q b is spelled;
         groups_known = groups_in table any_table q b is;
         groups_apart = subst (λ x. IsDistinct nat_eq x.groups) own.1 (groups_once terms.groups);
-        few_groups = limits.0;
+        few_groups = omega (arith, limits.0);
         aggs_known = all_aggs_in table any_table q b is;
         aggs_fit = functions_fit table any_table q b is spelled;
         aggs_apart = subst (λ x. IsDistinct same_agg x.aggs) own.1 (aggs_once (aggs_before_keys terms) (map (λ k. k.term) terms.keys) (aggs_once (aggs_from [] terms.items) terms.having (all_aggs_once terms.items)));

@@ -52,7 +52,7 @@ known_by : (fields : List Field) (name : List ℕ) (at : ℕ) (o : Option ℕ) �
 known_by fields name at None e passes = absurd (none-some (At UnknownColumn at) (sym passes))
 known_by fields name at (Some m) e passes = number_in fields name m e
 
-known_in : (fields : List Field) (n : NameAt) → column_finding fields n ≡ None → is_number_of fields (field_number fields n) ≡ true
+pub known_in : (fields : List Field) (n : NameAt) → column_finding fields n ≡ None → is_number_of fields (field_number fields n) ≡ true
 known_in fields n passes = known_by fields n.name n.offset (number_of fields n.name) refl passes
 
 -- ---- group columns
@@ -81,6 +81,8 @@ module _ (fields : List Field) where
   call_in func.Max (argument.Column n) passes = known_in fields n (first_none (column_finding fields n) _ passes)
   call_in func.Avg argument.Star passes = refl
   call_in func.Avg (argument.Column n) passes = known_in fields n (first_none (column_finding fields n) _ passes)
+  call_in func.DistinctCount argument.Star passes = refl
+  call_in func.DistinctCount (argument.Column n) passes = known_in fields n (first_none (column_finding fields n) _ passes)
 
   term_in : (t : Term) → term_finding fields t ≡ None → true ≡ true → meaning_is agg_in (meaning_of fields t) ≡ true
   term_in (term.Column n) passes own = refl

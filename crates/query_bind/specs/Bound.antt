@@ -103,6 +103,7 @@ word_of func.Sum = codes "sum"
 word_of func.Min = codes "min"
 word_of func.Max = codes "max"
 word_of func.Avg = codes "avg"
+word_of func.DistinctCount = codes "distinctcount"
 
 -- the column of a call, or `*`
 abbrev pub argument_text : Argument → Text

@@ -61,6 +61,7 @@ is_number (Some kind.Long) = true
 -- counting takes any field, and each other function a field of numbers
 abbrev pub takes : Func → Option FieldKind → Bool
 takes func.Count kind = true
+takes func.DistinctCount kind = true
 takes f kind = is_number kind
 
 -- the argument is `*`, or a field that the function takes

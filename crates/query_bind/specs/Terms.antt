@@ -30,20 +30,22 @@ use Rattle.table_schema.specs.Aggs.{same_agg}
 
 -- ---- terms
 
--- the kind of aggregate that a function computes
+-- the kind of aggregate that a function computes; distinct values are a count too
 abbrev pub kind_of : Func → AggKind
 kind_of func.Count = Count
 kind_of func.Sum = Sum
 kind_of func.Min = Least
 kind_of func.Max = Greatest
 kind_of func.Avg = Average
+kind_of func.DistinctCount = Count
 
 -- the number of the field of an argument; none for `*`
 abbrev pub column_of : List Field → Argument → Option ℕ
 column_of fields argument.Star = None
 column_of fields (argument.Column n) = Some (field_number fields n)
 
--- the aggregate of a call; a count of a column is the count of rows
+-- the aggregate of a call; a count of a column is the count of rows, and a count that has a column
+-- is that of its distinct values
 abbrev pub agg_of : List Field → Func → Argument → Agg
 agg_of fields func.Count a = record { kind = Count; column = None }
 agg_of fields f a = record { kind = kind_of f; column = column_of fields a }

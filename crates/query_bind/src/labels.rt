@@ -48,6 +48,7 @@ fn call_label(alloc: Global, call: &Call) -> Result<Name, NoMemory>
         Func::Min => "min",
         Func::Max => "max",
         Func::Avg => "avg",
+        Func::DistinctCount => "distinctcount",
     };
     let mut label = Name::from_text(alloc, word)?;
     label.push_str("(")?;

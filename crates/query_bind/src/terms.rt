@@ -1,6 +1,6 @@
 //! Terms and group columns, by numbers of fields.
 
-ghost use Rattle.std.specs.Prelude.{◌≡◌, map, option_map};
+ghost use Rattle.std.specs.Prelude.{◌≡◌, Some, map, option_map};
 ghost use Rattle.query_bind.specs.Names as naming;
 ghost use Rattle.query_bind.specs.Terms as spec;
 ghost use Rattle.query_bind.specs.Faults.{Resolves, Gives};
@@ -63,10 +63,21 @@ fn kind(func: Func) -> AggKind
         Func::Min => AggKind::Least,
         Func::Max => AggKind::Greatest,
         Func::Avg => AggKind::Average,
+        Func::DistinctCount => AggKind::Count,
     }
 }
 
-/// The number of the field in a call, which is one of numbers unless rows are counted.
+// Whether a function takes a field of a kind.
+fn takes(func: Func, kind: FieldKind) -> bool
+    ensures { result ≡ naming.takes func (Some kind) }
+{
+    match func {
+        Func::Count | Func::DistinctCount => true,
+        Func::Sum | Func::Min | Func::Max | Func::Avg => kind != FieldKind::Text,
+    }
+}
+
+/// The number of the field in a call, which is one of numbers unless rows or values are counted.
 fn resolve_argument(
     fields: Fields,
     func: Func,
@@ -79,7 +90,7 @@ fn resolve_argument(
         return Ok(None);
     };
     let number = column(fields, name)?;
-    if func != Func::Count && kind_of(fields, name)? == FieldKind::Text {
+    if !takes(func, kind_of(fields, name)?) {
         return Err(BindFault::At(BindReason::NotNumeric, name.offset));
     }
     Ok(Some(number))

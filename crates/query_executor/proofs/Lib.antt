@@ -7,6 +7,8 @@ pub mod SegmentLemmas
 pub mod Unread
 pub mod ReplyLemmas
 pub mod PassLemmas
+pub mod CountingLemmas
+pub mod QueryLemmas
 mod StatedLemmas
 pub mod OneReads
 pub mod PlanLemmas

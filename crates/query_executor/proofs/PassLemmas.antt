@@ -30,7 +30,7 @@ use Rattle.query_executor.specs.declared.fault.ExecutorFault.{ExecutorFault}
 use Rattle.query_executor.specs.declared.fault.ExecutorFault.TheVariants.{NotASegment, ReadFault, Sql}
 use Rattle.query_executor.proofs.EndLemmas.{Done, Failed, fault_not, fault_ok, memory_not_bad, memory_not_full, memory_not_read, no_fault, own_fault, reads_done, reads_failed, reads_lacking, reads_still, reads_unread}
 use Rattle.query_executor.proofs.FaultLemmas.{memory_not_bad_at, memory_not_read_at, text_not_bad_at, text_not_read_at}
-use Rattle.query_executor.proofs.Unread.{asked_err, asked_ok, unread}
+use Rattle.query_executor.proofs.Unread.{query_none, unread}
 use Rattle.segment_head.specs.declared.stored.Stored.{Stored}
 
 -- ---- one segment
@@ -145,17 +145,6 @@ module _ (query : BoundQuery) (table : Table) (stored : List Stored) where
     reads_of_fault = on-err r (LogsEach (ReadsPlanned query table false) table a.held stored (length stored) a.log a.log) (unread law query table valid a.held stored a.log);
   }
 
-  -- the query of a text
-  pub pass_of_text : (sql : List ℕ) → asked table false sql ≡ Ok query → (T : Type 0) (r : Result T ExecutorFault) (a b : Seen) → PassReads query table stored a b r → TextReads table stored sql a b r
-  pass_of_text sql is T r a b p = record {
-    unread = λ fault none. let both : Ok query ≡ Err fault = sym is ∙ none in absurd cc;
-    bad = λ at part e. let (lt, bad) = p.bad at part e in (lt, (query, is, bad));
-    only_reads = p.only_reads;
-    log = p.log;
-    reads = asked_ok r (λ query. LogsEach (ReadsPlanned query table true) table a.held stored (length stored) a.log b.log) (asked table false sql) query is p.reads;
-    reads_of_fault = asked_err r (λ query. LogsEach (ReadsPlanned query table false) table a.held stored (length stored) a.log b.log) (asked table false sql) query is p.reads_of_fault;
-  }
-
 -- a text that is no query
 pub text_unread : DocsAreBounded → (table : Table) → IsValidTable table → (stored : List Stored) (sql : List ℕ) (U : Type 0) (fault : SqlFault) (a : Seen) → TextReads table stored sql a a (Failed U (Sql fault))
 text_unread law table valid stored sql U fault a = record {
@@ -164,7 +153,7 @@ text_unread law table valid stored sql U fault a = record {
   only_reads = reads_unread _ a (λ e. text_not_read_at fault (own_fault U (Sql fault) ReadFault e));
   log = logs_none (IsFileOf stored) a.log;
   reads = tt;
-  reads_of_fault = λ query asks. unread law query table valid a.held stored a.log;
+  reads_of_fault = λ query asks. query_none law query table valid a.held stored a.log;
 }
 
 pub heads_unread : (table : Table) (stored : List Stored) (U : Type 0) (fault : SqlFault) (a : Seen) → LooksAtHeads table stored a a (Failed U (Sql fault))

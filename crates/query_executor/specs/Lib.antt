@@ -4,6 +4,7 @@ pub mod Answers
 pub mod Explained
 pub mod Stated
 pub mod Passes
+pub mod Counting
 pub mod Replies
 pub mod ByIds
 pub mod Alike

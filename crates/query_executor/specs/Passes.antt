@@ -2,10 +2,11 @@
 -- refused by and reads.
 use Rattle.std.specs.Prelude.{◌≡◌, ◌≤◌, ◌<◌, ◌+◌, ◌-◌, ◌*◌, ◌⊎◌, true, false, ℕ, List, [], Option, Some, None, Result, Ok, Err, IfSome, IsErrOf, OnErr, OnOk, length}
 use Rattle.std.specs.FinMap as finite
-use Rattle.std.specs.List.{All}
+use Rattle.std.specs.List.{All, Contains}
 use Rattle.agg_laws.specs.Numbers.{most_values}
 use Rattle.outside.specs.Files.{Files}
 use Rattle.outside.specs.Seen.{OnlyReads, Seen}
+use Rattle.table_schema.specs.Counted.{passes_of}
 use Rattle.table_schema.specs.ValidQuery.{IsValidQuery}
 use Rattle.table_schema.specs.ValidTable.{IsValidTable}
 use Rattle.table_schema.specs.declared.query.BoundQuery.{BoundQuery}
@@ -25,6 +26,7 @@ use Rattle.segment_head.specs.declared.fault.EngineFault.TheVariants as engine
 use Rattle.sql_reply.specs.Asked.{asked}
 use Rattle.sql_reply.specs.declared.fault.SqlFault.{SqlFault}
 use Rattle.segment_reads.specs.Logs.{LogsHeadsOf, LogsIn, LogsOf}
+use Rattle.segment_reads.specs.Passes.{ReadsQuery}
 use Rattle.segment_reads.specs.Reads.{LogsEach, LogsOne, ReadsPlanned}
 use Rattle.segment_head.specs.Stored.{HasNoImage, names_of, segment_at}
 use Rattle.segment_head.specs.declared.stored.Stored.{Stored}
@@ -97,10 +99,15 @@ IsBadPart query table held segment part =
     (FailsInHead table held segment part ⊎ FailsInRows query table held segment part)
     × IfSome held (λ files. HasNoImage table files segment)
 
+-- the same in one of the passes of a query
+abbrev pub IsBadInPass : BoundQuery → Table → Option Files → Stored → Part → Type 0
+IsBadInPass query table held segment part = (pass : BoundQuery) × Contains (passes_of query) pass
+    × IsBadPart pass table held segment part
+
 -- the same for the query that a text asks
 abbrev pub IsBadAsked : Table → List ℕ → Option Files → Stored → Part → Type 0
 IsBadAsked table sql held segment part = (query : BoundQuery) × (asked table false sql ≡ Ok query)
-    × IsBadPart query table held segment part
+    × IsBadInPass query table held segment part
 
 -- the same where plans alone are made, so that no more than the head is looked at
 abbrev pub IsBadPlanned : Table → Option Files → Stored → Part → Type 0
@@ -158,6 +165,18 @@ pub record PassReads {A : Type 0} (query : BoundQuery) (table : Table) (stored :
   pub reads_of_fault : OnErr result (LogsEach (ReadsPlanned query table false) table old.held stored
       (length stored) old.log new.log)
 
+-- what a query over these segments is refused by, and what it reads of each in all its passes
+pub record QueryReads {A : Type 0} (query : BoundQuery) (table : Table) (stored : List Stored)
+    (old new : Seen) (result : Result A ExecutorFault) : Type 0 where
+  pub bad : (at : ℕ) (part : Part) → result ≡ Err (NotASegment at part)
+      → (at < length stored) × IsBadInPass query table old.held (segment_at stored at) part
+  pub only_reads : OnlyReads (IsErrOf result ReadFault) old new
+  pub log : LogsOf stored old.log new.log
+  pub reads : OnOk result (LogsEach (ReadsQuery query table true) table old.held stored
+      (length stored) old.log new.log)
+  pub reads_of_fault : OnErr result (LogsEach (ReadsQuery query table false) table old.held stored
+      (length stored) old.log new.log)
+
 -- the same of a query's text; nothing is read for a text that is no query over the table
 pub record TextReads {A : Type 0} (table : Table) (stored : List Stored) (sql : List ℕ)
     (old new : Seen) (result : Result A ExecutorFault) : Type 0 where
@@ -167,10 +186,10 @@ pub record TextReads {A : Type 0} (table : Table) (stored : List Stored) (sql : 
   pub only_reads : OnlyReads (IsErrOf result ReadFault) old new
   pub log : LogsOf stored old.log new.log
   pub reads : OnOk result ((query : BoundQuery) → asked table false sql ≡ Ok query
-      → LogsEach (ReadsPlanned query table true) table old.held stored (length stored)
+      → LogsEach (ReadsQuery query table true) table old.held stored (length stored)
       old.log new.log)
   pub reads_of_fault : OnErr result ((query : BoundQuery) → asked table false sql ≡ Ok query
-      → LogsEach (ReadsPlanned query table false) table old.held stored (length stored)
+      → LogsEach (ReadsQuery query table false) table old.held stored (length stored)
       old.log new.log)
 
 -- what a look at the heads of these segments is refused by, and what it reads

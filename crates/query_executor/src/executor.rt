@@ -6,12 +6,13 @@ ghost use Rattle.sql_reply.specs.declared.fault.SqlFault.{SqlFault};
 ghost use Rattle.sql_reply.specs.declared.fault.SqlFault.TheVariants.{NoMemory};
 ghost use Rattle.segment_head.specs.Stored.{live};
 ghost use Rattle.query_executor.specs.Answers.{IsBoundReply, IsReply};
-ghost use Rattle.query_executor.specs.Passes.{AreSegmentsOf, HaveOpenings, IsQueryOver, PassReads};
+ghost use Rattle.query_executor.specs.Passes.{AreSegmentsOf, HaveOpenings, IsQueryOver, QueryReads};
 ghost use Rattle.query_executor.specs.Replies.{AnswersText};
 ghost use Rattle.query_executor.specs.Stated.{IsBoundWith, IsReplyWith, IsStated, text_with};
 ghost use Rattle.query_executor.specs.declared.fault.ExecutorFault.TheVariants.{Sql};
 
 use crate::ExecutorFault;
+use crate::counting::count_distinct;
 use crate::pass::{Pass, pass_over};
 use outside::{Bytes, Name, Seq, Shelf};
 use segment_head::{Stored, live_segments};
@@ -68,9 +69,16 @@ fn reply_with<S: Shelf>(
 {
     docs_bound_law();
     match bound_query(alloc, sql, table, false) {
-        Ok(bound) => {
+        Ok(mut bound) => {
             let stored = live_segments(alloc, names)?;
-            reply_to_bound(alloc, shelf, table, stored.as_slice(), &bound, wants_lines)
+            reply_to_bound(
+                alloc,
+                shelf,
+                table,
+                stored.as_slice(),
+                &mut bound,
+                wants_lines,
+            )
         }
         Err(fault) => Err(ExecutorFault::Sql(fault)),
     }
@@ -82,17 +90,17 @@ fn reply_to_bound<S: Shelf>(
     shelf: &mut S,
     table: &Table,
     stored: &[Stored],
-    query: &BoundQuery,
+    query: &mut BoundQuery,
     wants_lines: bool,
 ) -> Result<Bytes, ExecutorFault>
-    requires { IsQueryOver query.now table.now stored.now }
+    requires { IsQueryOver query.old table.now stored.now }
     ensures reply { IfOk result (λ text. IfSome (S.held shelf.old) (λ files.
-        IsBoundWith wants_lines table.now files stored.now query.now text)) }
+        IsBoundWith wants_lines table.now files stored.now query.old text)) }
     ensures refused { (fault : SqlFault) → result ≡ Err (Sql fault) → fault ≢ NoMemory →
         (¬ IsOfText fault) × IfSome (S.held shelf.old) (λ files.
-        IsBoundReply table.now files stored.now query.now (Err fault)) }
+        IsBoundReply table.now files stored.now query.old (Err fault)) }
     ensures opens { OnOk result (HaveOpenings table.now (S.held shelf.old) stored.now) }
-    ensures passes { PassReads query.now table.now stored.now
+    ensures passes { QueryReads query.old table.now stored.now
         (seen S.Shelf shelf.old) (seen S.Shelf shelf.new) result }
 {
     docs_bound_law();
@@ -101,8 +109,12 @@ fn reply_to_bound<S: Shelf>(
         Ok(()) => {}
         Err(fault) => return Err(fault),
     }
-    // The room for ids is let go before the reply is made.
+    // The room for ids is let go before others take theirs and the reply is made.
     pass.rooms = IdRooms::new(alloc);
+    match count_distinct(alloc, shelf, table, stored, query, &mut pass) {
+        Ok(()) => {}
+        Err(fault) => return Err(fault),
+    }
     let reply = answer(alloc, query, &pass.groups, &pass.pool)?;
     Ok(with_lines(reply, wants_lines, pass.lines.as_slice())?)
 }

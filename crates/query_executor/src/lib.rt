@@ -6,6 +6,7 @@
 mod adding;
 mod asked;
 mod by_ids;
+mod counting;
 mod executor;
 mod explain;
 mod fault;

@@ -46,7 +46,9 @@ func_of n =
     else (if str_eq_ignore_ascii_case n (codes "sum") then Some func.Sum
     else (if str_eq_ignore_ascii_case n (codes "min") then Some func.Min
     else (if str_eq_ignore_ascii_case n (codes "max") then Some func.Max
-    else (if str_eq_ignore_ascii_case n (codes "avg") then Some func.Avg else None))))
+    else (if str_eq_ignore_ascii_case n (codes "avg") then Some func.Avg
+    else (if str_eq_ignore_ascii_case n (codes "distinctcount") then Some func.DistinctCount
+    else None)))))
 
 -- the function that `*` may stand in
 abbrev pub is_count : Func → Bool
@@ -55,6 +57,7 @@ is_count func.Sum = false
 is_count func.Min = false
 is_count func.Max = false
 is_count func.Avg = false
+is_count func.DistinctCount = false
 
 -- `*` where it may not stand
 abbrev pub bad_star : {A : Type 0} → Parser A

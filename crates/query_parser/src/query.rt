@@ -204,6 +204,8 @@ fn func_of(name: &Name) -> Option<Func>
         Some(Func::Max)
     } else if same_word(word, b"avg") {
         Some(Func::Avg)
+    } else if same_word(word, b"distinctcount") {
+        Some(Func::DistinctCount)
     } else {
         None
     }
@@ -214,7 +216,7 @@ fn is_count(func: Func) -> bool
 {
     match func {
         Func::Count => true,
-        Func::Sum | Func::Min | Func::Max | Func::Avg => false,
+        Func::Sum | Func::Min | Func::Max | Func::Avg | Func::DistinctCount => false,
     }
 }
 

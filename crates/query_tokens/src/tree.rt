@@ -37,6 +37,7 @@ pub enum Func {
     Min,
     Max,
     Avg,
+    DistinctCount,
 }
 
 /// What a call is over: `*` or a column.

@@ -3,5 +3,6 @@ pub mod LogLemmas
 pub mod GrownLemmas
 pub mod PlaceLemmas
 pub mod SpanLemmas
+pub mod PassesLemmas
 pub mod HeadReads
 pub mod PartLogs

@@ -2,3 +2,4 @@ pub mod Docs
 pub mod Logs
 pub mod Looked
 pub mod Reads
+pub mod Passes

@@ -4,6 +4,7 @@ use Rattle.std.proofs.lemmas.Bool.Decides.{nat_tests}
 use Rattle.std.specs.FinMap as finite
 use Rattle.outside.specs.Files.{Files}
 use Rattle.outside.specs.Seen.{Seen}
+use Rattle.table_schema.specs.Counted.{counts_distinct}
 use Rattle.table_schema.specs.declared.query.BoundQuery.{BoundQuery}
 use Rattle.table_schema.specs.declared.table.Table.{Table}
 use Rattle.state_pool.specs.Pool.{Pool}
@@ -26,7 +27,7 @@ use Rattle.command_words.specs.declared.stop.Stop.TheVariants as stop
 use Rattle.command_model.specs.Gives.{sql_stop}
 use Rattle.command_model.proofs.MachineLemmas.{read_as}
 use Rattle.serve_lines.specs.Calls.{AnswersBy, AnswersOver}
-use Rattle.serve_lines.specs.Step.{Serves as Over, by_machine, opened_for, opened_over, opened_text, over_table, unchanged}
+use Rattle.serve_lines.specs.Step.{Serves as Over, by_machine, not_served, opened_for, opened_over, opened_text, over_table, unchanged}
 use Rattle.serve_lines.proofs.OverLemmas.{over_as, over_memory, over_refused}
 
 both_there : (m : Machine) (a : Option Held) (b : Option OpenCursor) → BothKept m a b → is_some a ≡ is_some b
@@ -98,12 +99,20 @@ module _ (number : ℕ) (cursor sql : List ℕ) (table : Table) (pool : Pool) (d
       stopped_by (query.BadQuery why place) is = wrong_so (query.BadQuery why place) (is (λ e. cc))
       stopped_by (query.Unbound why place) is = wrong_so (query.Unbound why place) (is (λ e. cc))
       stopped_by (query.TooManyGroups most) is = wrong_so (query.TooManyGroups most) (is (λ e. cc))
+      stopped_by (query.TooManyDistinct most) is = wrong_so (query.TooManyDistinct most) (is (λ e. cc))
 
       pub open_wrong : (wrong : SqlFault) (s : Stop) → s ≡ sql_stop wrong → (wrong ≢ query.NoMemory → asked table false sql ≡ Err wrong) → Answered (Err s)
       open_wrong wrong s same is = subst (λ s. Answered (Err s)) (sym same) (stopped_by wrong is)
 
-      pub open_asked : (e : Seen) (found : BoundQuery) (news : List OpenCursor) (result : Result (List ℕ) Stop) → asked table false sql ≡ Ok found
+      -- a query that counts distinct values
+      pub open_counting : (found : BoundQuery) → asked table false sql ≡ Ok found → counts_distinct found ≡ true → Answered (Err (stop.Refused not_served))
+      open_counting found is counts = over_refused number (over_table number (Open cursor sql)) table i d Olds not_served (stop.Refused not_served) (inl refl)
+          (λ given files texts m stands. free_as given files texts m all there few stands ∙ ap (opened_for texts cursor m) is
+          ∙ ap (λ b. cond b (unchanged not_served (Over texts m)) (by_machine texts cursor (opened_text cursor) (opened cursor found m))) counts)
+
+      pub open_asked : (e : Seen) (found : BoundQuery) (news : List OpenCursor) (result : Result (List ℕ) Stop) → asked table false sql ≡ Ok found → counts_distinct found ≡ false
           → AnswersBy number (opened_text cursor) cursor (opened cursor found) table (record { inputs = i; depot = d }) (record { inputs = i; depot = e }) Olds news result
           → AnswersOver number (Open cursor sql) table (record { inputs = i; depot = d }) (record { inputs = i; depot = e }) Olds news result
-      open_asked e found news result is a = over_as number (λ given texts m. by_machine texts cursor (opened_text cursor) (opened cursor found m)) (over_table number (Open cursor sql)) table (record { inputs = i; depot = d }) (record { inputs = i; depot = e }) Olds news result
-          (λ given files texts m stands. free_as given files texts m all there few stands ∙ ap (opened_for texts cursor m) is) a
+      open_asked e found news result is none a = over_as number (λ given texts m. by_machine texts cursor (opened_text cursor) (opened cursor found m)) (over_table number (Open cursor sql)) table (record { inputs = i; depot = d }) (record { inputs = i; depot = e }) Olds news result
+          (λ given files texts m stands. free_as given files texts m all there few stands ∙ ap (opened_for texts cursor m) is
+          ∙ ap (λ b. cond b (unchanged not_served (Over texts m)) (by_machine texts cursor (opened_text cursor) (opened cursor found m))) none) a

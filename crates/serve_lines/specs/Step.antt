@@ -4,6 +4,7 @@ use Rattle.std.specs.Fmt.{decimal}
 use Rattle.std.specs.FinMap as finite
 use Rattle.outside.specs.Files.{Files}
 use Rattle.values.specs.declared.value.Value.{Value}
+use Rattle.table_schema.specs.Counted.{counts_distinct}
 use Rattle.table_schema.specs.declared.query.BoundQuery.{BoundQuery}
 use Rattle.table_schema.specs.declared.table.Table.{Table}
 use Rattle.segment_file.specs.Ordered.{ordered}
@@ -19,6 +20,7 @@ use Rattle.command_words.specs.Notes.{sql_note}
 use Rattle.command_words.specs.ServeLine.{Build, Close, Drop, Fetch, Open, Replace, ServeLine, Step}
 use Rattle.command_words.specs.declared.note.Counted.TheVariants as counted
 use Rattle.command_words.specs.declared.note.Note.{Note}
+use Rattle.command_words.specs.declared.bad_query.QueryReason.TheVariants as reason
 use Rattle.command_words.specs.declared.note.Note.TheVariants as note
 use Rattle.command_model.specs.Build.{built_text, new_rows, rows_from, table_of}
 use Rattle.command_model.specs.Drop.{dropped_text}
@@ -91,10 +93,15 @@ no_table_note = note.NotASegment table_name (codes "table")
 
 -- ---- lines on a cursor
 
--- a cursor is opened for what its text asks, if it asks a query
+-- no cursor counts distinct values
+abbrev pub not_served : Note
+not_served = note.BadQuery reason.NotServed 0
+
+-- a cursor is opened for what its text asks, if it asks a query that cursors answer
 abbrev pub opened_for : Texts → List ℕ → Machine → Result BoundQuery SqlFault → After
-opened_for texts cursor m (Ok query) = by_machine texts cursor (opened_text cursor)
-    (machine.opened cursor query m)
+opened_for texts cursor m (Ok query) =
+    if counts_distinct query then unchanged not_served (Serves texts m)
+    else by_machine texts cursor (opened_text cursor) (machine.opened cursor query m)
 opened_for texts cursor m (Err wrong) = unchanged (sql_note wrong) (Serves texts m)
 
 -- where there is a cursor of the name, or as many as there may be, the text is not looked at

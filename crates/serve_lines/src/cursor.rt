@@ -9,13 +9,13 @@ ghost use Rattle.serve_lines.specs.Kept.{AreOver, cursors_of};
 ghost use Rattle.serve_lines.specs.Step.{closed_text, opened_text, stepped_text};
 
 use crate::reply::{closed, opened, stepped};
-use crate::stop::{cursor_taken, refused_query, stop_of};
+use crate::stop::{cursor_taken, not_served, refused_query, stop_of};
 use command_model::segment_stop;
 use command_words::{Counted, Note, Stop};
 use outside::{Bytes, Depot};
 use segment_file::Part;
 use serving::{MOST_CURSORS, ServeFault, Serving};
-use sql_reply::bound_query;
+use sql_reply::{bound_query, counts_distinct};
 use std::alloc::Global;
 use table_schema::{BoundQuery, Table};
 
@@ -44,7 +44,12 @@ pub(crate) fn open_over<D: Depot>(
         return Err(Stop::Refused(Note::TooLarge(Counted::Cursors, MOST_CURSORS as u64)));
     }
     match bound_query(alloc, sql, table, false) {
-        Ok(query) => open_for(alloc, cursor, query, table, serving, depot),
+        Ok(query) => {
+            if counts_distinct(&query) {
+                return Err(not_served());
+            }
+            open_for(alloc, cursor, query, table, serving, depot)
+        }
         Err(fault) => Err(refused_query(fault)),
     }
 }

@@ -3,6 +3,7 @@ ghost use Rattle.std.specs.Prelude.{◌≡◌, ◌≢◌, ◌⊎◌};
 ghost use Rattle.segment_file.specs.declared.part.Part.{Part};
 ghost use Rattle.command_model.specs.Gives.{sql_stop};
 ghost use Rattle.serve_lines.specs.Calls.{IsServeStop};
+ghost use Rattle.serve_lines.specs.Step as spec;
 
 use command_model::no_segment;
 use command_words::{Counted, Fault, Note, QueryReason, Stop};
@@ -43,9 +44,17 @@ pub(crate) fn refused_query(fault: SqlFault) -> Stop
         SqlFault::BadQuery(reason, place) => Note::BadQuery(QueryReason::Parse(reason), place),
         SqlFault::Unbound(reason, place) => Note::BadQuery(QueryReason::Bind(reason), place),
         SqlFault::TooManyGroups(most) => Note::TooManyGroups(most),
+        SqlFault::TooManyDistinct(most) => Note::TooManyDistinct(most),
         SqlFault::NoMemory => return Stop::Fault(Fault::Memory),
     };
     Stop::Refused(note)
+}
+
+/// The refusal of a query that no cursor answers.
+pub(crate) fn not_served() -> Stop
+    ensures { result ≡ Stop.Refused spec.not_served }
+{
+    Stop::Refused(Note::BadQuery(QueryReason::NotServed, 0))
 }
 
 /// What a fault of a call on the cursor or the segment of this name is for a line.

@@ -26,7 +26,6 @@ use Rattle.segment_head.specs.Stored.{HasImage, HasNoImage, live, segment_at, st
 use Rattle.segment_head.specs.declared.stored.Stored.{Stored}
 use Rattle.segment_reads.proofs.GrownLemmas.{zip_at}
 use Rattle.sql_reply.specs.Reply.{most_groups}
-use Rattle.sql_reply.specs.SqlReply.{replied}
 use Rattle.sql_reply.specs.declared.fault.SqlFault.{SqlFault}
 use Rattle.sql_reply.specs.declared.fault.SqlFault.TheVariants as sql
 use Rattle.query_executor.specs.declared.fault.ExecutorFault.{ExecutorFault}
@@ -198,6 +197,7 @@ failed_by after stands live (executor.Sql (sql.LongQuery n)) now full bad = full
 failed_by after stands live (executor.Sql (sql.BadQuery r n)) now full bad = full (sql.BadQuery r n) refl (λ e. absurd cc)
 failed_by after stands live (executor.Sql (sql.Unbound r n)) now full bad = full (sql.Unbound r n) refl (λ e. absurd cc)
 failed_by after stands live (executor.Sql (sql.TooManyGroups n)) now full bad = full (sql.TooManyGroups n) refl (λ e. absurd cc)
+failed_by after stands live (executor.Sql (sql.TooManyDistinct n)) now full bad = full (sql.TooManyDistinct n) refl (λ e. absurd cc)
 failed_by after stands live (executor.Sql sql.NoMemory) now full bad = now
 failed_by after stands live (executor.NotASegment n part) now full bad = bad n part refl
 failed_by after stands live executor.ReadFault now full bad = now
@@ -310,11 +310,11 @@ fetches_as : (m : Machine) (name : List ℕ) (cursor : Kept) → finite.get m.cu
 fetches_as m name cursor got b over = ap (λ o. fetched_by name o m) got ∙ ap (fetches_left name cursor m) over
 
 -- the text of groups that are few
-text_of : (shape : Shape) (g h : Groups) (text : List ℕ) → g ≡ h → finite.len h ≤ most_cursor_groups → replied (reply_over most_groups shape g) ≡ Ok text → text ≡ answer_text (answer_of shape h)
+text_of : (shape : Shape) (g h : Groups) (text : List ℕ) → g ≡ h → finite.len h ≤ most_cursor_groups → reply_over most_groups shape g ≡ broker.Answers text → text ≡ answer_text (answer_of shape h)
 text_of shape g h text same few is =
-    by (nat_lt most_groups (finite.len h)) (le-ltb most_groups (finite.len h) (omega (arith, few))) (ap (λ (k : Groups). replied (reply_over most_groups shape k)) (sym same) ∙ is)
+    by (nat_lt most_groups (finite.len h)) (le-ltb most_groups (finite.len h) (omega (arith, few))) (ap (λ (k : Groups). reply_over most_groups shape k) (sym same) ∙ is)
   where
-    by : (b : Bool) → b ≡ false → replied (cond b broker.TooManyGroups (broker.Answers (answer_text (answer_of shape h)))) ≡ Ok text → text ≡ answer_text (answer_of shape h)
+    by : (b : Bool) → b ≡ false → cond b broker.TooManyGroups (broker.Answers (answer_text (answer_of shape h))) ≡ broker.Answers text → text ≡ answer_text (answer_of shape h)
     by true e is = absurd (false≢true (sym e))
     by false e is = cc
 
@@ -329,7 +329,7 @@ module _ (table : Table) (pool : Pool) (ds : List Cursor) (name : List ℕ) (at 
   -- all are answered, and this is the reply
   pub fetches_moved : (held : Option Files) (pool_new : Pool) (e : Cursor) (news : List OpenCursor) (text : List ℕ)
       → AnswersRows table held (next_stored c (length c.segments)) pool pool_new c e → IsMoved (length c.segments) c e → IsCursorIn pool_new e → e.groups.most ≡ most_cursor_groups
-      → PutsUnder name (cursor_in pool_new e) (cursors_in pool ds) news → replied (reply_over most_groups (shape_of e.query) (groups_in (in_pool e.groups pool_new))) ≡ Ok text
+      → PutsUnder name (cursor_in pool_new e) (cursors_in pool ds) news → reply_over most_groups (shape_of e.query) (groups_in (in_pool e.groups pool_new)) ≡ broker.Answers text
       → Serves (fetched name) table (cursors_in pool ds) news held held (Ok text)
   fetches_moved None pool_new e news text answered is_moved it most puts says = tt
   fetches_moved (Some files) pool_new e news text answered is_moved it most puts says = λ texts m stands.
@@ -346,7 +346,7 @@ module _ (table : Table) (pool : Pool) (ds : List Cursor) (name : List ℕ) (at 
       let goes : fetched name m ≡ fetches_left name cursor m false = fetches_as m name cursor found.got false (le-ltb most_cursor_groups (finite.len (all_groups cursor)) few) in
       let same_query : e.query ≡ cursor.query = is_moved.query ∙ found.is.query in
       let is_text : text ≡ answer_text (answer_of (shape_of cursor.query) (all_groups cursor)) = text_of (shape_of cursor.query) (groups_in (in_pool e.groups pool_new)) (all_groups cursor) text groups_are few
-      (ap (λ (q : BoundQuery). replied (reply_over most_groups (shape_of q) (groups_in (in_pool e.groups pool_new)))) (sym same_query) ∙ says) in
+      (ap (λ (q : BoundQuery). reply_over most_groups (shape_of q) (groups_in (in_pool e.groups pool_new))) (sym same_query) ∙ says) in
       let sound : IsSound (moved name cursor all m) = subst (λ (a : After (List ℕ)). IsSound a.machine) goes (stays_sound 0 (Fetch name) m stands.sound) in
       let numbered : IsNumbered (moved name cursor all m) = subst (λ (a : After (List ℕ)). IsNumbered a.machine) goes (stays_numbered 0 (Fetch name) m stands.sound stands.numbered) in
       subst (λ (a : After (List ℕ)). IsAnsweredAs a (ServingStands news files texts table) (Stands files (HasTable texts (segments_of m.live))) (Ok text)) (sym goes)

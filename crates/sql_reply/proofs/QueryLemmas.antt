@@ -12,10 +12,9 @@ use Rattle.query_bind.specs.Bound.{Bound, answer, bound, bound_of, in_normal_for
 use Rattle.query_bind.specs.Conjuncts.{KeepRows}
 use Rattle.query_bind.specs.Faults.{Finding}
 use Rattle.query_bind.specs.Written.{where_holds, where_written}
-use Rattle.group_table.specs.Groups.{groups_of}
-use Rattle.broker_merge.specs.Reply.{reply_over}
+use Rattle.broker_merge.specs.Counted.{reply_over}
 use Rattle.sql_reply.specs.Parts.{IsBound, IsRead}
-use Rattle.sql_reply.specs.Reply.{conjuncts_reply, most_groups, reply_of, shape_of}
+use Rattle.sql_reply.specs.Reply.{conjuncts_reply, most, reply_of, shape_of}
 use Rattle.sql_reply.specs.SqlReply.{bound_reply, parsed_reply, replied, sql_reply}
 use Rattle.sql_reply.specs.declared.fault.SqlFault.TheVariants.{LongQuery}
 
@@ -25,7 +24,7 @@ answered (Some fault) value other is = absurd cc
 
 same_text : (b : Bound) (rows : List (List Value)) → KeepRows (in_normal_form b).conjuncts b.condition → conjuncts_reply (in_normal_form b) rows ≡ reply_of b rows
 same_text b rows keeps =
-    ap (λ kept. reply_over most_groups (shape_of b) (groups_of (shape_of b) kept))
+    ap (λ kept. reply_over most (shape_of b) kept)
     (filter_agree (λ row. all_hold row (in_normal_form b).conjuncts) (λ row. where_holds row b.condition) keeps rows)
 
 same_reply : (table : Table) (any_table : Bool) (q : Query) (b : Bound) (found : BoundQuery) (rows : List (List Value)) → bound table any_table q ≡ Ok b → found ≡ in_normal_form b

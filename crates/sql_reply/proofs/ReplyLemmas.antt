@@ -9,7 +9,7 @@ use Rattle.query_tokens.specs.declared.fault.QueryFault.TheVariants as parse
 use Rattle.query_bind.specs.Bound.{Bound, bound}
 use Rattle.query_bind.specs.declared.fault.BindFault.{BindFault}
 use Rattle.query_bind.specs.declared.fault.BindFault.TheVariants as bind
-use Rattle.broker_merge.specs.Reply as groups
+use Rattle.broker_merge.specs.Counted as groups
 use Rattle.sql_reply.specs.Reply.{reply_of}
 use Rattle.sql_reply.specs.Laws.{NeverForMemory}
 use Rattle.sql_reply.specs.SqlReply.{SqlReply, bound_reply, parsed_reply, replied}
@@ -24,6 +24,7 @@ Told r = r ≡ Err NoMemory → ⊥
 replied_told : (r : groups.Reply) → Told (replied r)
 replied_told (groups.Answers text) e = absurd cc
 replied_told groups.TooManyGroups e = absurd cc
+replied_told groups.TooManyDistinct e = absurd cc
 
 bound_told : (rows : List (List Value)) (r : Result Bound BindFault) → (r ≡ Err bind.NoMemory → ⊥) → Told (bound_reply rows r)
 bound_told rows (Ok b) told e = replied_told (reply_of b rows) e

@@ -1,5 +1,6 @@
 pub mod Asked
 pub mod Laws
+pub mod Pairs
 pub mod Parts
 pub mod Reply
 pub mod SqlReply

@@ -10,10 +10,10 @@ use Rattle.query_tokens.specs.declared.fault.QueryFault.TheVariants as parse
 use Rattle.query_bind.specs.Bound.{Bound, bound}
 use Rattle.query_bind.specs.declared.fault.BindFault.{BindFault}
 use Rattle.query_bind.specs.declared.fault.BindFault.TheVariants as bind
-use Rattle.broker_merge.specs.Reply as groups
-use Rattle.sql_reply.specs.Reply.{most_groups, reply_of}
+use Rattle.broker_merge.specs.Counted as groups
+use Rattle.sql_reply.specs.Reply.{most_groups, most_members, reply_of}
 use Rattle.sql_reply.specs.declared.fault.SqlFault.{SqlFault}
-use Rattle.sql_reply.specs.declared.fault.SqlFault.TheVariants.{BadQuery, LongQuery, NoMemory, TooManyGroups, Unbound}
+use Rattle.sql_reply.specs.declared.fault.SqlFault.TheVariants.{BadQuery, LongQuery, NoMemory, TooManyDistinct, TooManyGroups, Unbound}
 
 -- the most bytes that a query may have
 abbrev pub sql_limit : ℕ
@@ -34,6 +34,7 @@ bind_fault bind.NoMemory = NoMemory
 -- the fault is of the query's text itself, whatever the rows are
 abbrev pub IsOfText : SqlFault → Type 0
 IsOfText (TooManyGroups most) = ⊥
+IsOfText (TooManyDistinct most) = ⊥
 IsOfText NoMemory = ⊥
 IsOfText other = Unit {0}
 
@@ -43,10 +44,11 @@ IsOfText other = Unit {0}
 abbrev pub SqlReply : Type 0
 SqlReply = Result (List ℕ) SqlFault
 
--- a query that has too many groups has no reply
+-- a query that has too many groups or too many distinct values has no reply
 abbrev pub replied : groups.Reply → SqlReply
 replied (groups.Answers text) = Ok text
 replied groups.TooManyGroups = Err (TooManyGroups most_groups)
+replied groups.TooManyDistinct = Err (TooManyDistinct most_members)
 
 -- the reply to a query by its names and types
 abbrev pub bound_reply : List (List Value) → Result Bound BindFault → SqlReply

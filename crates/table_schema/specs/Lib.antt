@@ -4,6 +4,7 @@ pub mod Columns
 pub mod NeedIds
 pub mod Firsts
 pub mod Aggs
+pub mod Counted
 pub mod Valid
 pub mod ValidSettings
 pub mod ValidTable

@@ -8,6 +8,8 @@ use Rattle.values.specs.declared.test.Test.TheOpen.{Test-F}
 use Rattle.values.specs.declared.test.Test.TheFolds.{fold-Test}
 use Rattle.values.specs.Kinds.{is_of}
 use Rattle.values.specs.Tests.{all_true}
+use Rattle.agg_laws.specs.declared.aggregate_kind.AggKind.{AggKind}
+use Rattle.agg_laws.specs.declared.aggregate_kind.AggKind.TheVariants.{Count}
 use Rattle.table_schema.specs.declared.field.Field.{Field}
 use Rattle.table_schema.specs.declared.table.Table.{Table}
 use Rattle.table_schema.specs.declared.query.Agg.{Agg}
@@ -23,7 +25,8 @@ use Rattle.table_schema.specs.declared.query.Wide.{Wide}
 use Rattle.table_schema.specs.declared.query.Wide.TheOpen.{Wide-F}
 use Rattle.table_schema.specs.declared.query.Wide.TheFolds.{fold-Wide}
 use Rattle.table_schema.specs.Aggs.{same_agg}
-use Rattle.table_schema.specs.ValidSettings.{is_number_of, is_known_number, pair_fits}
+use Rattle.table_schema.specs.Roles.{is_numeric}
+use Rattle.table_schema.specs.ValidSettings.{is_number_of, is_known_number}
 
 -- ---- the fields that a condition names
 
@@ -91,9 +94,17 @@ conjunct_fits fields (Many wide) = wide_fits fields wide
 
 -- ---- aggregates, items and keys
 
--- COUNT has no column, and each other function has one of numbers
+-- COUNT has a column, of which the distinct values are counted, or none; each other function has
+-- one of numbers
+abbrev pub column_fits : List Field → AggKind → Option ℕ → Bool
+column_fits fields Count None = true
+column_fits fields Count (Some n) = is_number_of fields n
+column_fits fields function None = false
+column_fits fields function (Some n) = is_numeric (slice_get fields n)
+
+-- the column of an aggregate is one that its function takes
 abbrev pub agg_fits : List Field → Agg → Bool
-agg_fits fields a = pair_fits fields a.kind a.column
+agg_fits fields a = column_fits fields a.kind a.column
 
 -- a place among the group columns, or among the aggregates
 abbrev pub is_item : BoundQuery → Item → Bool
@@ -139,7 +150,7 @@ pub record IsValidQuery (table : Table) (q : BoundQuery) : Type 0 where
   pub many_differ : list_all conjunct_names q.conjuncts ≡ true
   pub groups_known : list_all (is_number_of table.schema.fields) q.groups ≡ true
   pub groups_apart : IsDistinct nat_eq q.groups
-  pub few_groups : length q.groups ≤ 8
+  pub few_groups : length q.groups ≤ 9
   pub aggs_known : list_all (λ a. is_known_number table.schema.fields a.column) q.aggs ≡ true
   pub aggs_fit : list_all (agg_fits table.schema.fields) q.aggs ≡ true
   pub aggs_apart : IsDistinct same_agg q.aggs

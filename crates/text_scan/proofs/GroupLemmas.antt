@@ -7,11 +7,9 @@ use Rattle.table_schema.specs.Conditions.{all_hold}
 use Rattle.table_schema.specs.declared.query.BoundQuery.{BoundQuery}
 use Rattle.group_table.specs.Groups.{groups_of}
 use Rattle.group_table.specs.Kept.{KeptGroups, groups_in}
-use Rattle.group_table.specs.QueryPool.{Limits}
 use Rattle.group_table.specs.Shape.{shape_of}
 use Rattle.scan_engine.specs.Scanned.{AddsRows, IsOverfull, selected}
 use Rattle.scan_engine.proofs.AddLemmas.{groups_after, len_more, overfull_after}
-use Rattle.sql_reply.specs.Reply.{most_groups}
 
 both_selected : (query : BoundQuery) (xs ys : List (List Value)) → selected query xs ++ selected query ys ≡ selected query (xs ++ ys)
 both_selected query xs ys = sym (filter-append (λ row. all_hold row query.conjuncts) xs ys)
@@ -22,12 +20,12 @@ pub block_added : (query : BoundQuery) (count : ℕ) (done rows : List (List Val
 block_added query count done rows old new a so = groups_after query count (selected query done) (selected query rows) old new a so ∙ ap (groups_of (shape_of query)) (both_selected query done rows)
 
 -- too many groups before the end of a text are too many at its end
-pub overfull_text : (query : BoundQuery) (done rows rest : List (List Value)) (table : KeptGroups) → Limits query most_groups table.most
+pub overfull_text : (query : BoundQuery) (done rows rest : List (List Value)) (table : KeptGroups)
     → IsOverfull query (selected query rows) table → groups_in table ≡ groups_of (shape_of query) (selected query done)
-    → most_groups < finite.len (groups_of (shape_of query) (selected query ((done ++ rows) ++ rest)))
-overfull_text query done rows rest table limits over so =
+    → table.most < finite.len (groups_of (shape_of query) (selected query ((done ++ rows) ++ rest)))
+overfull_text query done rows rest table over so =
     let here : table.most < finite.len (groups_of (shape_of query) (selected query done ++ selected query rows)) = overfull_after query (selected query done) (selected query rows) table over so in
     let more = len_more (shape_of query) (selected query done ++ selected query rows) (selected query rest) in
     let same : (selected query done ++ selected query rows) ++ selected query rest ≡ selected query ((done ++ rows) ++ rest) =
     ap (λ l. l ++ selected query rest) (both_selected query done rows) ∙ both_selected query (done ++ rows) rest in
-    limits.same (selected query ((done ++ rows) ++ rest)) (subst (λ l. table.most < finite.len (groups_of (shape_of query) l)) same (omega (arith, here, more)))
+    subst (λ l. table.most < finite.len (groups_of (shape_of query) l)) same (omega (arith, here, more))

@@ -1,3 +1,4 @@
+mod CountingLemmas
 mod KeptRows
 mod NamedLemmas
 mod GroupLemmas

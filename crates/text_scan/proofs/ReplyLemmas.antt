@@ -24,6 +24,7 @@ scan_told (Err (queries.LongQuery most)) told e = absurd cc
 scan_told (Err (queries.BadQuery wrong place)) told e = absurd cc
 scan_told (Err (queries.Unbound wrong place)) told e = absurd cc
 scan_told (Err (queries.TooManyGroups most)) told e = absurd cc
+scan_told (Err (queries.TooManyDistinct most)) told e = absurd cc
 scan_told (Err queries.NoMemory) told e = told refl
 
 rows_told : ReplyNever → (sql : List ℕ) (r : Result (Schema × List (List Value)) CsvFault) → (r ≡ Err csv.NoMemory → ⊥) → Told (rows_reply sql r)

@@ -1,17 +1,19 @@
 -- What the functions that a reply is made by answer.
-use Rattle.std.specs.Prelude.{◌≡◌, ◌≢◌, ◌≤◌, ◌<◌, ◌⊎◌, Bool, true, false, List, Ok, Err, IsErrAnd}
+use Rattle.std.specs.Prelude.{◌≡◌, ◌≢◌, ◌≤◌, ◌<◌, ◌⊎◌, ℕ, Bool, true, false, List, Ok, Err, IsErrAnd}
 use Rattle.std.specs.FinMap as finite
 use Rattle.values.specs.declared.value.Value.{Value}
 use Rattle.table_schema.specs.declared.query.BoundQuery.{BoundQuery}
 use Rattle.csv_ingest.specs.Blocks.{RowsOrFault, text_limit}
-use Rattle.csv_ingest.specs.NumberBlocks.{IsNumberBlocks}
+use Rattle.csv_ingest.specs.NumberBlocks.{Gives, IsNumberBlocks}
+use Rattle.csv_ingest.specs.Rows.{number_rows_in, records_of, with_schema}
 use Rattle.csv_ingest.specs.declared.blocks.NumberBlocks.{NumberBlocks}
+use Rattle.csv_row.specs.Row.{csv_limits}
 use Rattle.csv_row.specs.declared.fault.CsvFault.{CsvFault}
 use Rattle.group_table.specs.Groups.{groups_of}
 use Rattle.group_table.specs.Kept.{KeptGroups, groups_in}
 use Rattle.group_table.specs.Shape.{shape_of}
 use Rattle.scan_engine.specs.Scanned.{selected}
-use Rattle.sql_reply.specs.Reply.{conjuncts_reply, most_groups}
+use Rattle.sql_reply.specs.Reply.{conjuncts_reply}
 use Rattle.sql_reply.specs.SqlReply.{replied}
 use Rattle.text_scan.specs.TextReply.{Replies, TextReply, scan_reply, text_fault}
 use Rattle.text_scan.specs.declared.fault.ScanFault.{ScanFault}
@@ -27,12 +29,18 @@ abbrev pub IsTextFault : RowsOrFault → ScanFault → Type 0
 IsTextFault whole fault = fault ≢ NoMemory → (wrong : CsvFault) × (whole ≡ Err wrong)
     × (fault ≡ text_fault wrong)
 
--- the table has the groups over these rows, if there is room for them; else there are too many
-abbrev pub GroupsRows : Bool → BoundQuery → List (List Value) → KeptGroups → Type 0
-GroupsRows true query rows table = groups_in table ≡ groups_of (shape_of query)
+-- the table has the groups over these rows, if there is room for them; else there are more than it
+-- may have
+abbrev pub GroupsRows : Bool → ℕ → BoundQuery → List (List Value) → KeptGroups → Type 0
+GroupsRows true most query rows table = groups_in table ≡ groups_of (shape_of query)
     (selected query rows)
-GroupsRows false query rows table = most_groups < finite.len
+GroupsRows false most query rows table = most < finite.len
     (groups_of (shape_of query) (selected query rows))
+
+-- what is left of a text with a header is these rows, or this fault
+pub record IsLeftOf (text : List ℕ) (blocks : NumberBlocks) (whole : RowsOrFault) : Type 0 where
+  pub gives : Gives blocks whole
+  pub is : number_rows_in csv_limits (records_of text) ≡ with_schema blocks.header.fields whole
 
 -- the reply to a query in its normal form over the rows of a text, or the text's fault
 abbrev pub RepliesOver : BoundQuery → RowsOrFault → TextReply → Type 0

@@ -13,7 +13,7 @@ use Rattle.sql_reply.specs.SqlReply.{SqlReply, sql_reply}
 use Rattle.sql_reply.specs.declared.fault.SqlFault.{SqlFault}
 use Rattle.sql_reply.specs.declared.fault.SqlFault.TheVariants as queries
 use Rattle.text_scan.specs.declared.fault.ScanFault.{ScanFault}
-use Rattle.text_scan.specs.declared.fault.ScanFault.TheVariants.{BadText, BadQuery, LongQuery, NoMemory, TooManyColumns, TooManyGroups, TooManyRows, Unbound}
+use Rattle.text_scan.specs.declared.fault.ScanFault.TheVariants.{BadText, BadQuery, LongQuery, NoMemory, TooManyColumns, TooManyDistinct, TooManyGroups, TooManyRows, Unbound}
 
 -- ---- what is wrong
 
@@ -30,6 +30,7 @@ scan_fault (queries.LongQuery most) = LongQuery most
 scan_fault (queries.BadQuery wrong place) = BadQuery wrong place
 scan_fault (queries.Unbound wrong place) = Unbound wrong place
 scan_fault (queries.TooManyGroups most) = TooManyGroups most
+scan_fault (queries.TooManyDistinct most) = TooManyDistinct most
 scan_fault queries.NoMemory = NoMemory
 
 -- ---- the reply

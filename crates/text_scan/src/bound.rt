@@ -39,6 +39,7 @@ fn scan_fault(fault: SqlFault) -> ScanFault
         SqlFault::BadQuery(reason, place) => ScanFault::BadQuery(reason, place),
         SqlFault::Unbound(reason, place) => ScanFault::Unbound(reason, place),
         SqlFault::TooManyGroups(most) => ScanFault::TooManyGroups(most),
+        SqlFault::TooManyDistinct(most) => ScanFault::TooManyDistinct(most),
         SqlFault::NoMemory => ScanFault::NoMemory,
     }
 }

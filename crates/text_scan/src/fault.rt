@@ -23,6 +23,8 @@ pub enum ScanFault {
     Unbound(BindReason, u32),
     /// The query has more groups than so many.
     TooManyGroups(u32),
+    /// The query counts more distinct values, in all its groups together, than so many.
+    TooManyDistinct(u32),
     /// Memory ran out.
     NoMemory,
 }

@@ -5,10 +5,8 @@ ghost use Rattle.csv_ingest.specs.Blocks.{RowsOrFault};
 ghost use Rattle.csv_ingest.specs.NumberBlocks.{Gives, GivesBlock, IsNumberBlocks};
 ghost use Rattle.group_table.specs.Kept.{IsNew, IsTableOf};
 ghost use Rattle.group_table.specs.Pooled.{IsTableIn, in_pool};
-ghost use Rattle.group_table.specs.QueryPool.{Limits};
 ghost use Rattle.scan_engine.specs.Numbers.{AreNumbers};
 ghost use Rattle.text_scan.specs.Parts.{GroupsRows, IsText, IsTextFault};
-ghost use Rattle.sql_reply.specs.Reply.{most_groups};
 ghost use Rattle.text_scan.specs.TextReply.{text_fault};
 
 use crate::ScanFault;
@@ -48,13 +46,12 @@ pub(crate) fn group_text(
     requires text { IsText blocks.old }
     requires pooled { IsTableIn table.old pool.old }
     requires table { IsNew bound.now table.old.most (in_pool table.old pool.old) }
-    requires limits { Limits bound.now most_groups table.old.most }
     ensures ok { IfOk result (λ room. (whole : RowsOrFault) → Gives blocks.old whole →
         (rows : List (List Value)) × (whole ≡ Ok rows)
-        × GroupsRows room bound.now rows (in_pool table.new pool.new)) }
+        × GroupsRows room table.old.most bound.now rows (in_pool table.new pool.new)) }
     ensures table { IfOk result (λ room. room ≡ true
         → IsTableOf bound.now (in_pool table.new pool.new)) }
-    ensures most { IfOk result (λ room. room ≡ true → table.new.most ≤ most_groups) }
+    ensures most { IfOk result (λ room. room ≡ true → table.new.most ≡ table.old.most) }
     ensures pooled { IfOk result (λ room. room ≡ true → IsTableIn table.new pool.new) }
     ensures err { IfErr result (λ fault. (whole : RowsOrFault) → Gives blocks.old whole →
         IsTextFault whole fault) }

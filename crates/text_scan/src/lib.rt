@@ -2,6 +2,7 @@
 #![tactic(auto)]
 
 mod bound;
+mod counting;
 mod fault;
 mod groups;
 mod laws;

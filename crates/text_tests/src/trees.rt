@@ -21,6 +21,7 @@ fn func_word(func: Func) -> &'static str {
         Func::Min => "MIN",
         Func::Max => "MAX",
         Func::Avg => "AVG",
+        Func::DistinctCount => "DISTINCTCOUNT",
     }
 }
 

@@ -10,7 +10,8 @@ use Rattle.query_executor.proofs.ReplyLemmas.{over_live, text_real}
 use Rattle.query_executor.proofs.EndLemmas.{fault_if, fault_ok, found_so, gives_fault, memory_refused}
 use Rattle.query_executor.proofs.StatedLemmas.{unasked_with, with_fault, with_so}
 use Rattle.outside.specs.Seen.{Seen, seen}
-use Rattle.query_executor.proofs.PassLemmas.{pass_of_text, pass_unread, text_unread}
+use Rattle.query_executor.proofs.PassLemmas.{pass_unread, text_unread}
+use Rattle.query_executor.proofs.QueryLemmas.{query_of_text, query_unread}
 use Rattle.query_executor.proofs.executor.reply_with.Goals as goal
 
 pub reply_to_bound-requires : goal.reply_to_bound-requires
@@ -37,7 +38,7 @@ returns-in_ok-stored-in-Ok g c =
       refused = λ fault is real. with_fault query table stored sql c.in-Ok.ensures.asked c.in-Ok.ensures.reply wanted held fault (own.refused fault is real).1;
       of_text = λ fault is text. absurd ((own.refused fault is (text_real fault text)).0 text);
       opens = own.opens;
-      passes = pass_of_text query table stored sql c.in-Ok.ensures.asked _ c.reply_to_bound.result a b own.passes;
+      passes = query_of_text c.docs_bound_law.ensures.bound query table c.requires.valid stored sql c.in-Ok.ensures.asked _ c.reply_to_bound.result a b own.passes;
     })
 
 pub returns-in_err-stored-in-Ok : goal.returns-in_err-stored-in-Ok
@@ -52,7 +53,8 @@ returns-in_err-stored-in-Ok g c =
       refused = λ fault e real. absurd (memory_refused _ r fault is e real);
       of_text = λ fault e text. absurd (memory_refused _ r fault is e (text_real fault text));
       opens = fault_ok _ r (Sql NoMemory) (HaveOpenings table a.held stored) is;
-      passes = pass_of_text c.in-Ok.bound table stored c.args.sql.now c.in-Ok.ensures.asked _ r a a (pass_unread c.in-Ok.bound table stored c.docs_bound_law.ensures.bound c.requires.valid _ r a is);
+      passes = query_of_text c.docs_bound_law.ensures.bound c.in-Ok.bound table c.requires.valid stored c.args.sql.now c.in-Ok.ensures.asked _ r a a
+          (query_unread c.docs_bound_law.ensures.bound c.in-Ok.bound table c.requires.valid stored _ r a is (pass_unread c.in-Ok.bound table stored c.docs_bound_law.ensures.bound c.requires.valid _ r a is));
     }
 
 pub returns-in-Err : goal.returns-in-Err

@@ -4,17 +4,15 @@ use Rattle.csv_ingest.specs.Kept.{AreKept}
 use Rattle.csv_row.specs.InOrder.{after}
 use Rattle.values.specs.Columns.{rows_of}
 use Rattle.group_table.specs.Kept.{groups_in}
-use Rattle.group_table.specs.Groups.{Groups}
+use Rattle.group_table.specs.Groups.{Groups, groups_of}
 use Rattle.group_table.specs.Pooled.{in_pool}
-use Rattle.group_table.specs.QueryPool.{Limits}
 use Rattle.group_table.proofs.SlotFrames.{stays_same, stays_both}
 use Rattle.group_table.specs.Shape.{shape_of}
-use Rattle.scan_engine.specs.Scanned.{HaveAtMost}
+use Rattle.scan_engine.specs.Scanned.{HaveAtMost, selected}
 use Rattle.scan_engine.proofs.AddLemmas.{at_most_more}
 use Rattle.sql_reply.proofs.GroupLemmas.{none_fit}
 use Rattle.text_scan.proofs.GroupLemmas.{block_added, overfull_text}
 use Rattle.values.specs.declared.value.Value.{Value}
-use Rattle.sql_reply.specs.Reply.{most_groups}
 use Rattle.text_scan.specs.Named.{AgreeAll, is_marked}
 use Rattle.text_scan.proofs.KeptRows.{kept-agree}
 use Rattle.text_scan.proofs.NamedLemmas.{agreeing-both, agreeing-same}
@@ -53,10 +51,10 @@ returns-in-Err-TooManyGroups-clause-ok c = λ whole h.
     let others : List (List Value) = (seen ++ rows_of c.in-Some.block) ++ tail in
     let same : AgreeAll named rows others =
     agreeing-both named (done ++ rows_of g.read) (seen ++ rows_of c.in-Some.block) tail tail (agreeing-both named done seen (rows_of g.read) (rows_of c.in-Some.block) agree (kept-agree marks g.read c.in-Some.block (subst (λ (m : List Bool). AreKept m g.read c.in-Some.block) c.deref.ensures.value g.same))) (agreeing-same named tail) in
-    let over = overfull_text query seen (rows_of c.in-Some.block) tail (in_pool c.reading.table c.reading.pool) (subst (Limits query most_groups) (sym c.reading.invariant.most) c.requires.limits) (c.add_block.ensures.adds.full (c.in-Err-TooManyGroups.is ∙ ap Err c.in-Err-TooManyGroups.field-0-is)) so in (
+    let over = overfull_text query seen (rows_of c.in-Some.block) tail (in_pool c.reading.table c.reading.pool) (c.add_block.ensures.adds.full (c.in-Err-TooManyGroups.is ∙ ap Err c.in-Err-TooManyGroups.field-0-is)) so in (
       rows,
       is ∙ ap (after done) g.is ∙ after-more done (rows_of g.read) g.more ∙ ap (after (done ++ rows_of g.read)) is_tail,
-      subst (λ (groups : Groups). most_groups < finite.len groups) (sym (c.in_ok-named.ensures rows others same)) over,
+      subst (λ (groups : Groups). c.args.table.now.most < finite.len groups) (sym (c.in_ok-named.ensures rows others same)) (subst (λ most. most < finite.len (groups_of (shape_of query) (selected query others))) c.reading.invariant.most over),
     )
 
 pub reading-preserved : goal.reading-preserved
@@ -93,4 +91,4 @@ returns-clause-ok c = λ whole h.
     )
 
 pub returns-clause-most : goal.returns-clause-most
-returns-clause-most c = λ yes. let is = c.reading.invariant.most in let le = c.requires.limits.within in omega (arith, is, le)
+returns-clause-most c = λ yes. c.reading.invariant.most

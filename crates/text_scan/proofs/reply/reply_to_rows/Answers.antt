@@ -15,5 +15,5 @@ returns-in-Ok-bound_query c = λ whole h.
 
 pub returns-in_ok-pass_over-in-Err-bound_query : goal.returns-in_ok-pass_over-in-Err-bound_query
 returns-in_ok-pass_over-in-Err-bound_query c = λ whole h.
-    let (rows, e) = c.in_ok-pass_over-in-Err-bound_query.ensures.ok whole h in
+    let (rows, e) = c.in_ok-pass_over-in-Err-bound_query.ensures.ok whole h.gives in
     by-rows c.args.sql.now c.args.blocks.now.header.fields c.in-Ok.schema c.in-Ok.ensures.ok whole rows e (Err c.in-Err-bound_query.fault) (c.in-Err-bound_query.ensures.err rows)
