@@ -5,7 +5,7 @@ ghost use Rattle.query_bind.specs.Written.{where_written};
 ghost use Rattle.query_bind.specs.Conjuncts.{KeepRows};
 ghost use Rattle.query_bind.specs.Faults.{Gives};
 ghost use Rattle.query_bind.specs.Bound as spec;
-ghost use Rattle.table_schema.specs.ValidQuery.{IsValidQuery};
+ghost use Rattle.table_schema.specs.ValidQuery.{IsValidQuery, most_columns};
 
 use crate::BindFault;
 use crate::assembled::assemble;
@@ -35,6 +35,7 @@ pub fn bind(
     ensures rows { IfOk result (λ bound.
         KeepRows bound.conjuncts (where_written table.now.schema.fields query.now.condition)) }
     ensures valid { IfOk result (IsValidQuery table.now) }
+    ensures few_groups { IfOk result (λ bound. length bound.groups ≤ most_columns) }
 {
     let (terms, lists) = check(alloc, query, table, any_table)?;
     let all = table.schema.fields.as_slice();

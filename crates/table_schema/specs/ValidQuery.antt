@@ -1,5 +1,5 @@
 -- Valid queries over the fields of a table: what each call that takes one may rely on.
-use Rattle.std.specs.Prelude.{◌≡◌, ℕ, ◌<◌, ◌≤◌, ◌==◌, nat_eq, nat_lt, Bool, true, false, not, ◌&&◌, List, [], ◌∷◌, length, flat_map, Option, Some, None, option_map, option_and_then}
+use Rattle.std.specs.Prelude.{◌≡◌, ℕ, ◌+◌, ◌<◌, ◌≤◌, ◌==◌, nat_eq, nat_lt, Bool, true, false, not, ◌&&◌, List, [], ◌∷◌, length, flat_map, Option, Some, None, option_map, option_and_then}
 use Rattle.std.specs.List.{list_all, list_any, slice_get, IsDistinct}
 use Rattle.data_types.specs.declared.kind.FieldKind.{FieldKind}
 use Rattle.values.specs.declared.value.Value.{Value}
@@ -143,14 +143,19 @@ if_asked test (Some having) = test having
 
 -- ---- the query
 
--- a bound query over a table: all it names is there, once, within the limits and of the right type
+-- the most columns that a query groups by when it is asked
+abbrev pub most_columns : ℕ
+most_columns = 8
+
+-- a bound query over a table: all it names is there, once, within the limits and of the right type.
+-- The groups of one that finds the distinct values of a column are by that column too
 pub record IsValidQuery (table : Table) (q : BoundQuery) : Type 0 where
   pub conjuncts_known : list_all (conjunct_known table.schema.fields) q.conjuncts ≡ true
   pub conjuncts_fit : list_all (conjunct_fits table.schema.fields) q.conjuncts ≡ true
   pub many_differ : list_all conjunct_names q.conjuncts ≡ true
   pub groups_known : list_all (is_number_of table.schema.fields) q.groups ≡ true
   pub groups_apart : IsDistinct nat_eq q.groups
-  pub few_groups : length q.groups ≤ 9
+  pub few_groups : length q.groups ≤ most_columns + 1
   pub aggs_known : list_all (λ a. is_known_number table.schema.fields a.column) q.aggs ≡ true
   pub aggs_fit : list_all (agg_fits table.schema.fields) q.aggs ≡ true
   pub aggs_apart : IsDistinct same_agg q.aggs
