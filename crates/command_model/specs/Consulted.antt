@@ -11,7 +11,8 @@ use Rattle.segment_file.specs.Ordered.{ordered}
 use Rattle.sql_reply.specs.Asked.{asked}
 use Rattle.sql_reply.specs.declared.fault.SqlFault.{SqlFault}
 use Rattle.segment_reads.specs.Logs.{IsHeadRead, LogsThat, LogsWhere}
-use Rattle.segment_reads.specs.Reads.{Grown, ReadsPlanned}
+use Rattle.segment_reads.specs.Passes.{ReadsQuery}
+use Rattle.segment_reads.specs.Reads.{Grown}
 use Rattle.segment_head.specs.Stored.{HasImage, live}
 use Rattle.segment_head.specs.declared.stored.Stored.{Stored}
 use Rattle.table_store.specs.Segments.{AreFirstNames, LacksSegment}
@@ -46,13 +47,13 @@ abbrev pub IsFileAmong : List (List ℕ) → List ℕ → Type 0
 IsFileAmong names file = (file ≡ table_name) ⊎ ((name : List ℕ) × Contains names name
     × (file ≡ file_of name))
 
--- for a text that asks a query each segment was read as the plan of its rows says, and at most so
--- where it was not answered; for one that asks none over this table nothing was read but the
--- table's file
+-- for a text that asks a query each segment was read as the plan of its rows says, in each pass
+-- that the query makes, and at most so where it was not answered; for one that asks none over this
+-- table nothing was read but the table's file
 abbrev pub ReadsAsked : Bool → Table → Files → List (List ℕ) → Option (List Entry)
     → Option (List Entry) → Result BoundQuery SqlFault → Type 0
 ReadsAsked answered table files names old new (Ok query) = LogsWhere (IsFileAmong names) old new
-    × ReadsEach (ReadsPlanned query table answered) table files names old new
+    × ReadsEach (ReadsQuery query table answered) table files names old new
 ReadsAsked answered table files names old new (Err wrong) = LogsOpened TableFile old new
 
 -- what is read for a query's text, by what it is asked for

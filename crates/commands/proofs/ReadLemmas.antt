@@ -21,14 +21,15 @@ use Rattle.sql_reply.specs.Asked.{asked}
 use Rattle.sql_reply.specs.declared.fault.SqlFault.{SqlFault}
 use Rattle.star_answer.specs.DocLaws.{DocsAreBounded}
 use Rattle.segment_reads.specs.Logs.{IsFileOf, IsHeadRead, LogsHeadsOf, LogsOf, LogsWhere}
-use Rattle.segment_reads.specs.Reads.{AreApart, LogsEach, ReadsPlanned}
+use Rattle.segment_reads.specs.Passes.{ReadsQuery}
+use Rattle.segment_reads.specs.Reads.{AreApart, LogsEach}
 use Rattle.segment_head.specs.Stored.{HasImage, live}
 use Rattle.segment_head.specs.declared.stored.Stored.{Stored}
 use Rattle.segment_reads.proofs.GrownLemmas.{zip_at, IsOfFile, grown_so, grown_then, live_apart}
 use Rattle.segment_reads.proofs.NameLemmas.{live_among, live_at, live_count}
 use Rattle.segment_reads.proofs.LogLemmas.{entries_as, entries_then, same_log}
-use Rattle.segment_reads.proofs.SpanLemmas.{planned_less, planned_of_file}
-use Rattle.query_executor.proofs.Unread.{nothing_read}
+use Rattle.segment_reads.proofs.PassesLemmas.{query_less, query_of_file}
+use Rattle.query_executor.proofs.Unread.{query_nothing}
 use Rattle.table_store.specs.Accepted.{IsAccepted}
 use Rattle.table_store.specs.Segments.{AreFirstNames, most_segments}
 use Rattle.table_store.specs.TableFile.{table_name}
@@ -140,7 +141,7 @@ module _ (table : Table) (files : Files) (names : List (List ℕ)) where
 
   asked_after : (answered : Bool) (r : Result BoundQuery SqlFault) (a b c : Option (List Entry)) → LogsOpened TableFile a b → ReadsAsked answered table files names b c r → ReadsAsked answered table files names a c r
   asked_after answered (Ok query) a b c first (log, each) =
-      (entries_then (λ entry. IsFileAmong names entry.file) a b c (table_among a b first) log, each_after (ReadsPlanned query table answered) (planned_of_file query table answered) a b c first log each)
+      (entries_then (λ entry. IsFileAmong names entry.file) a b c (table_among a b first) log, each_after (ReadsQuery query table answered) (query_of_file query table answered) a b c first log each)
   asked_after answered (Err wrong) a b c first r = table_then a b c first r
 
   about_after : (about : About) (sql : List ℕ) (answered : Bool) (a b c : Option (List Entry)) → LogsOpened TableFile a b → ReadsAbout about sql answered table files names b c → ReadsAbout about sql answered table files names a c
@@ -150,7 +151,7 @@ module _ (table : Table) (files : Files) (names : List (List ℕ)) where
 
   module _ (law : DocsAreBounded) (valid : IsValidTable table) where
     asked_table : (r : Result BoundQuery SqlFault) (a b : Option (List Entry)) → LogsOpened TableFile a b → ReadsAsked false table files names a b r
-    asked_table (Ok query) a b log = (table_among a b log, each_table (ReadsPlanned query table false) (planned_of_file query table false) a b log (nothing_read law query table valid (Some files)))
+    asked_table (Ok query) a b log = (table_among a b log, each_table (ReadsQuery query table false) (query_of_file query table false) a b log (query_nothing law query table valid (Some files)))
     asked_table (Err wrong) a b log = log
 
     about_table : (about : About) (sql : List ℕ) (a b : Option (List Entry)) → LogsOpened TableFile a b → ReadsAbout about sql false table files names a b
@@ -162,7 +163,7 @@ module _ (table : Table) (files : Files) (names : List (List ℕ)) where
 
   asked_less : (r : Result BoundQuery SqlFault) (a b : Option (List Entry)) → ReadsAsked true table files names a b r → ReadsAsked false table files names a b r
   asked_less (Ok query) a b (log, each) =
-      (log, λ before entries was now segments images k lt. planned_less query table (live (get_or names k [])) (ordered table.settings.sorted (get_or segments k [])) entries (each before entries was now segments images k lt))
+      (log, λ before entries was now segments images k lt. query_less query table (live (get_or names k [])) (ordered table.settings.sorted (get_or segments k [])) entries (each before entries was now segments images k lt))
   asked_less (Err wrong) a b r = r
 
   about_less : (about : About) (sql : List ℕ) (a b : Option (List Entry)) → ReadsAbout about sql true table files names a b → ReadsAbout about sql false table files names a b
@@ -170,12 +171,12 @@ module _ (table : Table) (files : Files) (names : List (List ℕ)) where
   about_less Plans sql a b r = r
   about_less RowsAndPlans sql a b r = asked_less (asked table false sql) a b r
 
-  asked_so : (answered : Bool) (r : Result BoundQuery SqlFault) (a b : Option (List Entry)) → AreApart (map live names) → LogsOf (map live names) a b → ((query : BoundQuery) → r ≡ Ok query → LogsEach (ReadsPlanned query table answered) table (Some files) (map live names) (length (map live names)) a b)
+  asked_so : (answered : Bool) (r : Result BoundQuery SqlFault) (a b : Option (List Entry)) → AreApart (map live names) → LogsOf (map live names) a b → ((query : BoundQuery) → r ≡ Ok query → LogsEach (ReadsQuery query table answered) table (Some files) (map live names) (length (map live names)) a b)
       → ((wrong : SqlFault) → r ≡ Err wrong → b ≡ a) → ReadsAsked answered table files names a b r
   asked_so answered (Ok query) a b apart log reads none = (
     entries_as (λ entry. IsFileOf (map live names) entry.file) (λ entry. IsFileAmong names entry.file) a b (λ entry of. inr (live_file names entry.file of)) log,
     λ before entries was now segments images k lt.
-        subst (λ s. ReadsPlanned query table answered s (ordered table.settings.sorted (get_or segments k [])) entries) (live_at names k)
+        subst (λ s. ReadsQuery query table answered s (ordered table.settings.sorted (get_or segments k [])) entries) (live_at names k)
         (reads query refl before entries was now segments images apart k (omega (arith, lt, live_count names))),
   )
   asked_so answered (Err wrong) a b apart log reads none = unread a b (none wrong refl)
@@ -228,7 +229,7 @@ stored_heads_after held a b c first r =
 module _ (table : Table) (names : List (List ℕ)) where
   -- for a text that is a query, or none
   pub text_read : (answered : Bool) (held : Option Files) (sql : List ℕ) (a b : Seen) → IfSome held (λ files. HasTableFile files table × AreFirstNames files names) → LogsOf (map live names) a.log b.log
-      → ((query : BoundQuery) → asked table false sql ≡ Ok query → LogsEach (ReadsPlanned query table answered) table held (map live names) (length (map live names)) a.log b.log) → ((wrong : SqlFault) → asked table false sql ≡ Err wrong → b ≡ a)
+      → ((query : BoundQuery) → asked table false sql ≡ Ok query → LogsEach (ReadsQuery query table answered) table held (map live names) (length (map live names)) a.log b.log) → ((wrong : SqlFault) → asked table false sql ≡ Err wrong → b ≡ a)
       → IfSome held (λ files. HasRead (ReadsAbout Rows sql answered) files a.log b.log)
   text_read answered None sql a b there log reads none = tt
   text_read answered (Some files) sql a b there log reads none = record {

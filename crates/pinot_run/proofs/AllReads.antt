@@ -6,22 +6,28 @@ use Rattle.std.specs.Str.{bytes_eq}
 use Rattle.std.proofs.lemmas.List.Elements.{All-head, All-tail}
 use Rattle.std.proofs.lemmas.List.Sums.{sum_by-cons}
 use Rattle.std.specs.FinMap as map
-use Rattle.std.specs.Prelude.{codes, not, sum_by}
+use Rattle.std.specs.List.{list_any}
+use Rattle.std.specs.Prelude.{◌||◌, codes, map as each, not, sum_by}
 use Rattle.outside.specs.Files.{Files}
 use Rattle.outside.specs.Reads.{Entry}
 use Rattle.outside.proofs.ReadLemmas.{read_in-append}
 use Rattle.values.specs.declared.value.Value.{Value}
+use Rattle.table_schema.specs.Counted.{counted_columns, pairs_query}
 use Rattle.table_schema.specs.declared.query.BoundQuery.{BoundQuery}
 use Rattle.table_schema.specs.declared.settings.TreeSetting.{TreeSetting}
 use Rattle.table_schema.specs.declared.table.Table.{Table}
 use Rattle.sql_reply.specs.Asked.{asked}
 use Rattle.sql_reply.specs.declared.fault.SqlFault.{SqlFault}
 use Rattle.star_file.specs.Reading.{doc_width}
-use Rattle.segment_plan.specs.Planned.{plan_over}
+use Rattle.eligibility.specs.Rule.{picked, picked_from}
+use Rattle.segment_plan.specs.Plan.{is_emptied, scan_of, tree_or}
+use Rattle.segment_plan.specs.Planned.{plan_over, told_head}
+use Rattle.segment_plan.specs.Pruning.{is_pruned}
 use Rattle.segment_plan.specs.declared.plans.SegmentPlan.{SegmentPlan}
 use Rattle.segment_plan.specs.declared.plans.SegmentPlan.TheVariants.{Empty, Pruned, Scan, StarTree}
 use Rattle.segment_head.specs.Stored.{live}
 use Rattle.segment_reads.specs.Docs.{docs_read}
+use Rattle.segment_reads.specs.Passes.{ReadsPasses}
 use Rattle.segment_reads.specs.Reads.{AreBytes, Grown, ReadsBy, ReadsNone, bytes_read, raw_span, star_span}
 use Rattle.segment_reads.proofs.GrownLemmas.{grown_so}
 use Rattle.segment_reads.proofs.LogLemmas.{same_log}
@@ -39,7 +45,7 @@ use Rattle.pinot_run.specs.Generate.{Generates, aside}
 use Rattle.pinot_run.specs.Headline.{LeavesOf, Moves, ReadsOf}
 use Rattle.pinot_run.specs.Laws.{ReadsFor, ReadsSegment, ReadsState, is_done}
 use Rattle.pinot_run.specs.Script.{DoesOne, EndsAt, RunsLines}
-use Rattle.pinot_run.specs.ScriptReads.{Finishes, LinesRead, ScriptReads, docs_of, goes_by_plan, is_scan, of_text, plan_docs, scans}
+use Rattle.pinot_run.specs.ScriptReads.{Finishes, LinesRead, ScriptReads, docs_of, goes_by_plan, is_scan, of_text, plan_docs, query_scans, scans}
 use Rattle.pinot_run.specs.Text.{line_command, line_request, words_of}
 use Rattle.table_store.proofs.NameLemmas.{is_name}
 use Rattle.pinot_run.proofs.DoneLemmas.{not_done, write_not_done}
@@ -92,11 +98,60 @@ module _ (table : Table) (name : List ℕ) (rows : List (List Value)) where
   of_plan query done x (StarTree t) r = record { raw = λ is. r.raw; stars = λ n setting got. tree_by query done t n setting x (t == n) refl got r }
   of_plan query done x (Scan plan) r = record { raw = λ is. absurd cc; stars = λ n setting got. no_bytes done (Star x n) (doc_width setting.shape) (r.stars n) }
 
+  -- a pass that counts distinct values reads no documents
+  none_picked : (query : BoundQuery) (column number : ℕ) (trees : List TreeSetting) → picked_from (pairs_query query column) number trees ≡ None
+  none_picked query column number [] = refl
+  none_picked query column number (tree ∷ trees) = none_picked query column (number + 1) trees
+
+  no_docs : (query : BoundQuery) (column n : ℕ) → plan_docs table rows n (pairs_query query column) (plan_over (pairs_query query column) table rows) ≡ 0
+  no_docs query column n =
+      by (is_pruned (pairs_query query column) (told_head table rows)) (is_emptied query.conjuncts table (told_head table rows)) (picked (pairs_query query column) table.settings.trees) (none_picked query column 0 table.settings.trees)
+    where
+      by : (a b : Bool) (o : Option ℕ) → o ≡ None
+          → plan_docs table rows n (pairs_query query column) (cond a Pruned (cond b Empty (tree_or (scan_of (pairs_query query column) table (told_head table rows)) o))) ≡ 0
+      by true b o none = refl
+      by false true o none = refl
+      by false false None none = refl
+      by false false (Some t) none = absurd cc
+
+  neither : (a b : Bool) → a || b ≡ false → (a ≡ false) × (b ≡ false)
+  neither true b e = absurd cc
+  neither false b e = (refl, e)
+
+  abbrev AnyScan : List BoundQuery → Bool
+  AnyScan passes = list_any (λ pass. is_scan (plan_over pass table rows)) passes
+
+  -- the reads of a pass and then of passes that count distinct values
+  of_passes : (first query : BoundQuery) (done : Bool) (x : List Entry) (columns : List ℕ) → ReadsPasses table done first (each (pairs_query query) columns) (live name) rows x
+      → OfPlan done (AnyScan (first ∷ each (pairs_query query) columns)) (λ n. plan_docs table rows n first (plan_over first table rows)) x
+  of_passes first query done x [] r =
+      let own = of_plan first done x (plan_over first table rows) r in
+      record { raw = λ none. own.raw (neither (is_scan (plan_over first table rows)) false none).0; stars = own.stars }
+  of_passes first query done x (column ∷ columns) (own, rest, is, read, then) =
+      let next = pairs_query query column in
+      let one = of_plan first done own (plan_over first table rows) read in
+      let more = of_passes next query done rest columns then in
+      subst (OfPlan done (AnyScan (first ∷ next ∷ each (pairs_query query) columns)) (λ n. plan_docs table rows n first (plan_over first table rows))) (sym is) (record {
+        raw = λ none.
+            let parts = neither (is_scan (plan_over first table rows)) (AnyScan (next ∷ each (pairs_query query) columns)) none in
+            let here : Raw own ≡ 0 = one.raw parts.0 in
+            let there : Raw rest ≡ 0 = more.raw parts.1 in
+            let sums : Raw (own ++ rest) ≡ Raw own + Raw rest = read_in-append own rest (live name).file (raw_span table name rows).from (raw_span table name rows).to in
+            omega (arith, here, there, sums);
+        stars = λ n setting got.
+            let width = doc_width setting.shape in
+            let docs = plan_docs table rows n first (plan_over first table rows) in
+            let sums : Star (own ++ rest) n ≡ Star own n + Star rest n = read_in-append own rest (live name).file (star_span table name rows n).from (star_span table name rows n).to in
+            let none : AreBytes done (Star rest n) (0 * width) = subst (λ d. AreBytes done (Star rest n) (d * width)) (no_docs query column n) (more.stars n setting got) in
+            let both : AreBytes done (Star own n + Star rest n) (docs * width + 0 * width) = added done (Star own n) (Star rest n) (docs * width) (0 * width) (one.stars n setting got) none in
+            subst (λ b. AreBytes done b (docs * width)) (sym sums) (subst (AreBytes done (Star own n + Star rest n)) (let no : docs * width + 0 * width ≡ docs * width = omega arith in no) both);
+      })
+
   abbrev OfText : Bool → List Entry → Result BoundQuery SqlFault → Type 0
-  OfText done x text = OfPlan done (of_text false (λ query plan. is_scan plan) table rows text) (λ n. of_text 0 (plan_docs table rows n) table rows text) x
+  OfText done x text = OfPlan done (of_text false (λ query plan. query_scans table rows query) table rows text) (λ n. of_text 0 (plan_docs table rows n) table rows text) x
 
   of_query : (done : Bool) (x : List Entry) (text : Result BoundQuery SqlFault) → ReadsFor text done table name rows x → OfText done x text
-  of_query done x (Ok query) r = of_plan query done x (plan_over query table rows) r
+  of_query done x (Ok query) r = of_passes query query done x (counted_columns query.aggs) r
   of_query done x (Err wrong) r = none_of done x r
 
   -- one that looks at the whole file of a segment looks at that of another

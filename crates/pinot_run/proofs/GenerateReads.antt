@@ -1,9 +1,10 @@
 -- What the commands of `generate` read of its segment.
-use Rattle.std.proofs.Common.{◌≡◌, ◌∙◌, ◌+◌, ◌≤◌, ◌++◌, inl, inr, ℕ, true, false, List, [], ◌∷◌, length, All, Option, Some, Ok, slice_get, refl, sym, subst, arith}
+use Rattle.std.proofs.Common.{◌≡◌, ◌∙◌, ◌+◌, ◌≤◌, ◌++◌, inl, inr, ℕ, true, false, List, [], ◌∷◌, length, All, Option, Some, Ok, slice_get, refl, sym, subst, arith, append-nil}
 use Rattle.std.specs.FinMap as map
 use Rattle.outside.specs.Files.{Files}
 use Rattle.outside.specs.Reads.{Entry}
 use Rattle.outside.proofs.ReadLemmas.{read_in-append, read_in-others}
+use Rattle.table_schema.specs.Counted.{counting_passes}
 use Rattle.table_schema.specs.declared.query.BoundQuery.{BoundQuery}
 use Rattle.table_schema.specs.declared.settings.TreeSetting.{TreeSetting}
 use Rattle.table_schema.specs.declared.table.Table.{Table}
@@ -16,6 +17,7 @@ use Rattle.segment_plan.specs.Planned.{plan_over}
 use Rattle.segment_plan.specs.RowsLeft.{indexed}
 use Rattle.segment_plan.specs.declared.plans.ScanPlan.{ScanPlan}
 use Rattle.segment_plan.specs.declared.plans.SegmentPlan.TheVariants.{Scan}
+use Rattle.segment_reads.specs.Passes.{ReadsPasses, ReadsQuery}
 use Rattle.segment_reads.specs.Reads.{Grown, ReadsBy, ReadsPlanned, ReadsScan, bytes_read, column_span, star_span}
 use Rattle.sql_reply.specs.Asked.{asked}
 use Rattle.table_store.specs.Accepted.{IsAccepted}
@@ -70,7 +72,7 @@ module _ (files : Files) (texts : Texts) (segments : Segments) (table : Table) (
   -- what a query reads, by the documents of each star-tree, and by the plan
   record Reads (sql : List ℕ) (x : List Entry) : Type 0 where
     stars : (n : ℕ) (setting : TreeSetting) → slice_get table.settings.trees n ≡ Some setting → Star x n ≡ tree_bytes table segment.rows n setting sql
-    planned : (query : BoundQuery) → asked table false sql ≡ Ok query → ReadsPlanned query table true (live generated_name) segment.rows x
+    planned : (query : BoundQuery) → asked table false sql ≡ Ok query → ReadsQuery query table true (live generated_name) segment.rows x
 
   -- a query that was answered over the state
   asked_read : (sql : List ℕ) (old new : Devices) (kept left : State) (text : List ℕ) → kept ≡ HasTable texts segments → Does files (Some (Ask RowsAndPlans sql)) (aside old kept [] []) status.Done (aside new left text []) → Grew (Reads sql) old.depot.log new.depot.log
@@ -104,6 +106,17 @@ module _ (files : Files) (texts : Texts) (segments : Segments) (table : Table) (
   abbrev pub AllRead : List Entry → Type 0
   AllRead x = TreesRead table segment.rows x × ColumnsRead x
 
+  -- the reads of the first pass come first
+  record FirstPass (query : BoundQuery) (x : List Entry) : Type 0 where
+    own : List Entry
+    rest : List Entry
+    is : x ≡ own ++ rest
+    planned : ReadsPlanned query table true (live generated_name) segment.rows own
+
+  first_pass : (query : BoundQuery) (others : List BoundQuery) (x : List Entry) → ReadsPasses table true query others (live generated_name) segment.rows x → FirstPass query x
+  first_pass query [] x r = record { own = x; rest = []; is = sym (append-nil x); planned = r }
+  first_pass query (next ∷ others) x (own, rest, is, planned, then) = record { own = own; rest = rest; is = is; planned = planned }
+
   both_read : (x y : List Entry) → Reads tree_query x → Reads scan_query y → AllRead (x ++ y)
   both_read x y first second = (
     λ n setting there.
@@ -112,10 +125,15 @@ module _ (files : Files) (texts : Texts) (segments : Segments) (table : Table) (
         let other : Star y n ≡ tree_bytes table segment.rows n setting scan_query = second.stars n setting there in
         sums ∙ (λ k. one k + other k),
     λ query plan asks is none column named.
-        let scan : ReadsScan query table (live generated_name) segment.rows plan true y = subst (ReadsBy query table (live generated_name) segment.rows true y) is (second.planned query asks) in
+        let pass = first_pass query (counting_passes query) y (second.planned query asks) in
+        let scan : ReadsScan query table (live generated_name) segment.rows plan true pass.own = subst (ReadsBy query table (live generated_name) segment.rows true pass.own) is pass.planned in
         let least = scan.whole refl none column named in
-        let sums = read_in-append x y (file_of generated_name) (column_span table generated_name segment.rows column).from (column_span table generated_name segment.rows column).to in
-        omega (arith, least, sums),
+        let from = (column_span table generated_name segment.rows column).from in
+        let to = (column_span table generated_name segment.rows column).to in
+        let passes : Column y column ≡ Column pass.own column + Column pass.rest column =
+        subst (λ l. Column l column ≡ Column pass.own column + Column pass.rest column) (sym pass.is) (read_in-append pass.own pass.rest (file_of generated_name) from to) in
+        let sums = read_in-append x y (file_of generated_name) from to in
+        omega (arith, least, passes, sums),
   )
 
   later_read : (x y : List Entry) → All (λ entry. entry.file ≡ table_name) x → AllRead y → AllRead (x ++ y)

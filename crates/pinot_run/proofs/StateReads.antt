@@ -23,7 +23,8 @@ use Rattle.segment_file.specs.Parts.{head_sections, raw_sections}
 use Rattle.sql_reply.specs.Asked.{asked}
 use Rattle.sql_reply.specs.declared.fault.SqlFault.{SqlFault}
 use Rattle.segment_reads.specs.Logs.{EndsBy, IsHeadRead, LogsWhere}
-use Rattle.segment_reads.specs.Reads.{Grown, ReadsNone, ReadsPlanned, raw_span, star_span}
+use Rattle.segment_reads.specs.Passes.{ReadsQuery}
+use Rattle.segment_reads.specs.Reads.{Grown, ReadsNone, raw_span, star_span}
 use Rattle.segment_head.specs.Stored.{HasImage, live}
 use Rattle.segment_head.specs.declared.stored.Stored.{Stored}
 use Rattle.segment_reads.proofs.GrownLemmas.{grown_so, same_name}
@@ -205,7 +206,7 @@ module _ (stored : Files) (texts : state.Texts) (segments : Segments) (stands : 
     for_text about sql done to (Ok query) is (log, each) = record {
       files = among_live log;
       each = λ name segment got before entries was now.
-          to name segment.rows entries (subst (λ r. ReadsFor r done table name segment.rows entries) (sym is) (each_of (ReadsPlanned query table done) each name segment got before entries was now));
+          to name segment.rows entries (subst (λ r. ReadsFor r done table name segment.rows entries) (sym is) (each_of (ReadsQuery query table done) each name segment got before entries was now));
     }
     for_text about sql done to (Err wrong) is log =
         none_read (Some (Ask about sql)) done (λ name rows entries none. to name rows entries (subst (λ r. ReadsFor r done table name rows entries) (sym is) none)) (table_heads table stored (map.keys segments) a b log)

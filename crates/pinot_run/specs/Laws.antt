@@ -12,7 +12,8 @@ use Rattle.sql_reply.specs.Asked.{asked}
 use Rattle.sql_reply.specs.declared.fault.SqlFault.{SqlFault}
 use Rattle.segment_head.specs.Stored.{live}
 use Rattle.segment_reads.specs.Logs.{LogsWhere}
-use Rattle.segment_reads.specs.Reads.{Grown, ReadsNone, ReadsPlanned}
+use Rattle.segment_reads.specs.Passes.{ReadsQuery}
+use Rattle.segment_reads.specs.Reads.{Grown, ReadsNone}
 use Rattle.table_store.specs.Accepted.{IsAccepted}
 use Rattle.table_store.specs.Stands.{Stands}
 use Rattle.table_store.specs.State.{HasTable, Segment, Segments, Texts}
@@ -43,11 +44,11 @@ abbrev pub is_done : Status → Bool
 is_done status.Done = true
 is_done other = false
 
--- what is read of a segment that has these rows for a text, by what it asks: what their plan says,
--- and where it asks no query nothing after the head
+-- what is read of a segment that has these rows for a text, by what it asks: what their plan says
+-- in each pass that the query makes, and where it asks no query nothing after the head
 abbrev pub ReadsFor : Result BoundQuery SqlFault → Bool → Table → List ℕ → List (List Value)
     → List Entry → Type 0
-ReadsFor (Ok query) done table name rows entries = ReadsPlanned query table done (live name) rows
+ReadsFor (Ok query) done table name rows entries = ReadsQuery query table done (live name) rows
     entries
 ReadsFor (Err wrong) done table name rows entries = ReadsNone table (live name) rows entries
 

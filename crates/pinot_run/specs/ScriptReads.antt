@@ -2,10 +2,12 @@
 -- says for each line, added up.
 use Rattle.std.specs.Prelude.{◌≡◌, ◌*◌, ◌==◌, ℕ, Bool, true, false, List, All, Option, Some, Result, Ok, Err, if◌then◌else◌, not, slice_get, sum_by}
 use Rattle.std.specs.FinMap as tree
+use Rattle.std.specs.List.{list_any}
 use Rattle.std.specs.Str.{bytes_eq}
 use Rattle.outside.specs.Files.{Files}
 use Rattle.outside.specs.Reads.{Entry}
 use Rattle.values.specs.declared.value.Value.{Value}
+use Rattle.table_schema.specs.Counted.{passes_of}
 use Rattle.table_schema.specs.declared.query.BoundQuery.{BoundQuery}
 use Rattle.table_schema.specs.declared.settings.TreeSetting.{TreeSetting}
 use Rattle.table_schema.specs.declared.table.Table.{Table}
@@ -63,9 +65,15 @@ abbrev pub plan_docs : Table → List (List Value) → ℕ → BoundQuery → Se
 plan_docs table rows n query (StarTree t) = if t == n then docs_read query table rows n else 0
 plan_docs table rows n query other = 0
 
--- whether a command answers a query for which the plan of these rows is a scan
+-- whether the plan of these rows is a scan in a pass that a query makes
+abbrev pub query_scans : Table → List (List Value) → BoundQuery → Bool
+query_scans table rows query =
+    list_any (λ pass. is_scan (plan_over pass table rows)) (passes_of query)
+
+-- whether a command answers such a query
 abbrev pub scans : Table → List (List Value) → Option Command → Bool
-scans table rows command = of_command false (λ query plan. is_scan plan) table rows command
+scans table rows command = of_command false (λ query plan. query_scans table rows query) table rows
+    command
 
 -- how many documents of the n-th star-tree a command is to read of a segment with these rows, as
 -- `stats` tells

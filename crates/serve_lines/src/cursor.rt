@@ -1,9 +1,9 @@
 //! The lines `open`, `step`, `fetch` and `close`: a cursor.
 ghost use Rattle.std.specs.Prelude.{ℕ};
 ghost use Rattle.outside.specs.Seen.{Seen, seen};
-ghost use Rattle.table_schema.specs.ValidQuery.{IsValidQuery};
 ghost use Rattle.cursor_serve.specs.Machine.{closed, fetched, opened, stepped};
 ghost use Rattle.command_words.specs.ServeLine.{Open};
+ghost use Rattle.serving.specs.Asked.{IsCursorQuery};
 ghost use Rattle.serve_lines.specs.Calls.{AnswersBy, AnswersOver, IsGivenUp};
 ghost use Rattle.serve_lines.specs.Kept.{AreOver, cursors_of};
 ghost use Rattle.serve_lines.specs.Step.{closed_text, opened_text, stepped_text};
@@ -64,7 +64,7 @@ fn open_for<D: Depot>(
     depot: &mut D,
 ) -> Result<Bytes, Stop>
     requires over { AreOver table.now serving.old }
-    requires query { IsValidQuery table.now query }
+    requires query { IsCursorQuery table.now query }
     ensures answers { (number : ℕ) (inputs : Seen) →
         AnswersBy number (opened_text cursor.now) cursor.now (opened cursor.now query) table.now
         (record { inputs = inputs; depot = seen D.Shelf depot.old })

@@ -6,7 +6,6 @@ ghost use Rattle.outside.specs.Seen.{OnlyReads, seen};
 ghost use Rattle.values.specs.Columns.{rows_of};
 ghost use Rattle.table_schema.specs.ValidTable.{AreRows, IsValidTable};
 ghost use Rattle.table_schema.specs.declared.table.Table.{Table as ATable};
-ghost use Rattle.table_schema.specs.ValidQuery.{IsValidQuery};
 ghost use Rattle.segment_build.specs.Growing.{TreesFit};
 ghost use Rattle.segment_file.specs.Names.{IsSegmentName, file_of};
 ghost use Rattle.segment_file.specs.Ordered.{ordered};
@@ -15,6 +14,7 @@ ghost use Rattle.table_store.specs.Images.{IsUnicode};
 ghost use Rattle.table_store.specs.Kept.{kept_name};
 ghost use Rattle.cursor_serve.specs.Machine.{closed, dropped, fetched, opened, replaced, stepped};
 ghost use Rattle.cursors.specs.Answered.{next_stored};
+ghost use Rattle.serving.specs.Asked.{IsCursorQuery};
 ghost use Rattle.serving.specs.Calls.{HasNoPlaceFor, LosesKept, ReadsOf, SameButOf, Serves};
 ghost use Rattle.serving.specs.Faults.{IsCloseFault, IsDropFault, IsOpenFault, IsReplaceFault, IsStepFault};
 ghost use Rattle.cursors.specs.Kept.{AreCursors, IsOver, cursors_in, place_under};
@@ -91,7 +91,7 @@ impl Serving {
     ) -> Result<u32, ServeFault>
         requires cursors { AreCursors self.old.pool self.old.cursors.items }
         requires over { AllByRecursion (IsOver table.now) self.old.cursors.items }
-        requires query { IsValidQuery table.now query }
+        requires query { IsCursorQuery table.now query }
         ensures serves { Serves (opened cursor.now query) table.now
             (cursors_in self.old.pool self.old.cursors.items)
             (cursors_in self.new.pool self.new.cursors.items)

@@ -19,6 +19,9 @@ returns-in-Ok-clause-answers g c = λ number inputs.
     open_asked number c.args.cursor.now c.args.sql.now c.args.table.now c.args.serving.now.pool c.args.serving.now.cursors.items inputs (seen g.D.Shelf c.args.depot.now) c.requires.cursors
     (sym c.holds_cursor.ensures ∙ c.if-holds_cursor.false) (subst (λ n. suc n ≤ 16) c.cursors.ensures c.if-cursors-ge-MOST_CURSORS.false) (seen g.D.Shelf c.open_for.new.depot) c.in-Ok.query (cursors_of c.open_for.new.serving) c.open_for.result c.in-Ok.ensures.asked (sym c.counts_distinct.ensures ∙ c.if-counts_distinct.false) (c.open_for.ensures.answers number inputs)
 
+pub open_for-requires-clause-query : goal.open_for-requires-clause-query
+open_for-requires-clause-query g c = record { valid = c.in-Ok.ensures.valid; plain = sym c.counts_distinct.ensures ∙ c.if-counts_distinct.false }
+
 pub returns-in-Err-clause-answers : goal.returns-in-Err-clause-answers
 returns-in-Err-clause-answers g c = λ number inputs.
     open_wrong number c.args.cursor.now c.args.sql.now c.args.table.now c.args.serving.now.pool c.args.serving.now.cursors.items inputs (seen g.D.Shelf c.args.depot.now) c.requires.cursors

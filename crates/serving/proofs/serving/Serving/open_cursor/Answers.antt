@@ -62,7 +62,7 @@ returns-clause-over g c =
     let pushed : c.push.new.self.items ≡ ds ++ c.in_ok-made.made ∷ [] = c.in_default.ensures.items ∙ ap (λ l. l ++ c.in_ok-made.made ∷ []) c.in_ok-reserve.ensures.items in
     let made = c.in_ok-made.ensures.made in
     let own : IsOver c.args.table.now c.in_ok-made.made = record {
-      query = subst (IsValidQuery c.args.table.now) (sym made.query_is) c.requires.query;
+      query = subst (IsValidQuery c.args.table.now) (sym made.query_is) c.requires.query.valid;
       named = subst (All IsSegmentName) (sym made.segments_are) c.in-Ok.ensures.named;
     } in
     subst (AllByRecursion (IsOver c.args.table.now)) (sym pushed) (all_joined (IsOver c.args.table.now) ds (c.in_ok-made.made ∷ []) c.requires.over (own, tt))
