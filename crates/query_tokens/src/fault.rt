@@ -15,7 +15,7 @@ pub enum Reason {
     NameTooLong,
     /// A text of more than 512 bytes.
     TextTooLong,
-    /// A call of something other than COUNT, SUM, MIN, MAX and AVG.
+    /// A call of something other than COUNT, DISTINCTCOUNT, SUM, MIN, MAX and AVG.
     UnknownFunction,
     /// `*` in a call other than COUNT.
     BadStar,
