@@ -6,7 +6,6 @@ use Rattle.std.specs.List.{All}
 use Rattle.outside.specs.Files.{Files}
 use Rattle.values.specs.Columns as columns
 use Rattle.values.specs.declared.value.Value.{Value}
-use Rattle.table_schema.specs.ValidQuery.{IsValidQuery}
 use Rattle.table_schema.specs.ValidTable.{AreRows, IsValidTable}
 use Rattle.table_schema.specs.declared.query.BoundQuery.{BoundQuery}
 use Rattle.table_schema.specs.declared.table.Table.{Table}
@@ -18,6 +17,7 @@ use Rattle.table_store.specs.State.{HasTable, Texts}
 use Rattle.cursor_serve.specs.Laws.{printed}
 use Rattle.cursor_serve.specs.Machine.{Live, Machine, cursor_reply, lists_of, rows_of}
 use Rattle.cursor_serve.specs.ServingStands.{ServingStands, segments_of}
+use Rattle.serving.specs.Asked.{IsCursorQuery}
 use Rattle.embedded_example.specs.declared.months.Ready.{Ready}
 
 -- a text is the reply to a query over lists of rows
@@ -54,7 +54,7 @@ LeavesReplaced table name rows before after = FromEach table name rows before (Î
 -- a query for each of two cursors over a table, and rows of its fields
 pub record IsReady (ready : Ready) : Type 0 where
   pub table : IsValidTable ready.table
-  pub early : IsValidQuery ready.table ready.early
-  pub late : IsValidQuery ready.table ready.late
+  pub early : IsCursorQuery ready.table ready.early
+  pub late : IsCursorQuery ready.table ready.late
   pub width : length ready.rows.columns â‰¡ length ready.table.schema.fields
   pub rows : AreRows ready.table.schema.fields (columns.rows_of ready.rows)

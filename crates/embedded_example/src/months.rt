@@ -1,8 +1,9 @@
 //! What cursors over the visits are opened with.
-ghost use Rattle.std.specs.Prelude.{◌≤◌, IfOk, length};
-ghost use Rattle.table_schema.specs.ValidQuery.{IsValidQuery};
-ghost use Rattle.table_schema.specs.ValidTable.{IsValidTable};
+ghost use Rattle.std.specs.Prelude.{◌≡◌, ◌≤◌, IfOk, length};
+ghost use Rattle.values.specs.Columns as columns;
+ghost use Rattle.table_schema.specs.ValidTable.{AreRows, IsValidTable};
 ghost use Rattle.command_model.specs.Profile.{csv_limit};
+ghost use Rattle.serving.specs.Asked.{IsCursorQuery};
 ghost use Rattle.embedded_example.specs.Turns.{IsReady};
 
 use command_model::csv_columns;
@@ -10,7 +11,7 @@ use embedded::{Fault, Store};
 use memory_devices::MemoryDepot;
 use outside::{Depot, Seq};
 use serving::ServeFault;
-use sql_reply::bound_query;
+use sql_reply::{bound_query, counts_distinct};
 use std::alloc::Global;
 use table_schema::{BoundQuery, Table};
 use table_store::open_table;
@@ -29,6 +30,8 @@ pub struct Ready {
 #[derive(Debug, Drop)]
 pub enum Stop {
     Store(Fault),
+    /// The query counts distinct values, which no cursor does.
+    NotServed,
     Cursor(ServeFault),
 }
 
@@ -69,15 +72,38 @@ pub fn both_months(
     Ok(visits.into_depot())
 }
 
-// A query by its text.
-fn query_of(alloc: Global, sql: &str, table: &Table) -> Result<BoundQuery, Fault>
+// A query by its text, if a cursor may be opened for it.
+fn query_of(alloc: Global, sql: &str, table: &Table) -> Result<BoundQuery, Stop>
     requires { IsValidTable table.now }
-    ensures { IfOk result (IsValidQuery table.now) }
+    ensures { IfOk result (IsCursorQuery table.now) }
 {
     match bound_query(alloc, sql, table, false) {
-        Ok(query) => Ok(query),
-        Err(fault) => Err(Fault::BadQuery(fault)),
+        Ok(query) => {
+            if counts_distinct(&query) {
+                return Err(Stop::NotServed);
+            }
+            Ok(query)
+        }
+        Err(fault) => Err(Stop::Store(Fault::BadQuery(fault))),
     }
+}
+
+// The table of a store, and the rows of a CSV text over it.
+fn table_and_rows<D: Depot>(
+    alloc: Global,
+    depot: &mut D,
+    csv: &str,
+) -> Result<(Table, Columns), Fault>
+    requires { length csv.now ≤ csv_limit }
+    ensures table { IfOk result (λ both. IsValidTable both.0) }
+    ensures width { IfOk result (λ both.
+        length both.1.columns ≡ length both.0.schema.fields) }
+    ensures rows { IfOk result (λ both.
+        AreRows both.0.schema.fields (columns.rows_of both.1)) }
+{
+    let table = open_table(alloc, depot)?;
+    let rows = csv_columns(alloc, &table, csv.as_bytes())?;
+    Ok((table, rows))
 }
 
 /// The table of a store, one query for each of two cursors, and the rows of a CSV text.
@@ -86,14 +112,13 @@ pub fn make_ready<D: Depot>(
     depot: &mut D,
     sql: &str,
     csv: &str,
-) -> Result<Ready, Fault>
+) -> Result<Ready, Stop>
     requires { length csv.now ≤ csv_limit }
     ensures { IfOk result IsReady }
 {
-    let table = open_table(alloc, depot)?;
+    let (table, rows) = table_and_rows(alloc, depot, csv)?;
     let early = query_of(alloc, sql, &table)?;
     let late = query_of(alloc, sql, &table)?;
-    let rows = csv_columns(alloc, &table, csv.as_bytes())?;
     Ok(Ready {
         table,
         early,
