@@ -132,9 +132,9 @@ Unanswered f = Err f
 
 -- a part that is refused is that of a file that is no image
 no_image_for : (about : About) (table : Table) (sql : List ℕ) (held : Option Files) (segment : Stored) (part : Part) → IsBadFor about table sql held segment part → IfSome held (λ files. HasNoImage table files segment)
-no_image_for Rows table sql held segment part (query, asks, pass, among, bad) = bad.1
+no_image_for Rows table sql held segment part (query, asks, (pass, among, bad)) = bad.1
 no_image_for Plans table sql held segment part bad = bad.1
-no_image_for RowsAndPlans table sql held segment part (query, asks, pass, among, bad) = bad.1
+no_image_for RowsAndPlans table sql held segment part (query, asks, (pass, among, bad)) = bad.1
 
 -- what holds of what is told holds where it is told
 where_told : (held : Option Files) (P : Option Files → Type 0) → P held → IfSome held (λ files. P (Some files))

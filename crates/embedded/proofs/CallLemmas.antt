@@ -226,7 +226,7 @@ UnansweredSo why = Err why
 -- a part that is refused is that of a file that is no image
 pub not_image : (table : Table) (names : List (List ℕ)) (sql : List ℕ) (held : Option Files) (at : ℕ) (part : Part) → (at < length (each live names)) × IsBadAsked table sql held (segment_at (each live names) at) part
     → (at < length names) × IfSome held (λ files. HasNoImage table files (live (get_or names at [])))
-not_image table names sql held at part (lt, (query, asks, pass, among, bad)) =
+not_image table names sql held at part (lt, (query, asks, (pass, among, bad))) =
     (omega (arith, lt, live_count names), subst (λ s. IfSome held (λ files. HasNoImage table files s)) (live_at names at) bad.1)
 
 module _ (table : Table) (names : List (List ℕ)) (sql : List ℕ) (a b c : Seen) (looks : ReadsNoByte ⊥ a b) (are : IfSome a.held (λ files. AreFirstNames files names)) where
