@@ -1,6 +1,6 @@
 -- Two cursors that take turns, by the machine of cursors.
-use Rattle.std.proofs.Common.{◌≡◌, ◌∙◌, ◌+◌, ◌-◌, ℕ, Bool, true, false, cond, List, [], ◌∷◌, length, take, Option, Some, None, Result, Ok, Err, refl, sym, ap, subst}
-use Rattle.std.specs.Prelude.{codes, is_some, nat_eq, nat_le, IsErrOf, IsSomeAnd}
+use Rattle.std.proofs.Common.{◌≡◌, ◌∙◌, ◌+◌, ◌-◌, ℕ, Bool, true, false, cond, List, [], ◌∷◌, length, take, Option, Some, None, Result, Ok, refl, sym, subst}
+use Rattle.std.specs.Prelude.{is_some, nat_eq, nat_le, IsErrOf, IsSomeAnd}
 use Rattle.std.specs.FinMap as finite
 use Rattle.std.specs.List.{All}
 use Rattle.std.proofs.lemmas.List.Elements.{All-from_recursion}

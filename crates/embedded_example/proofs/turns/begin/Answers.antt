@@ -1,6 +1,5 @@
-use Rattle.std.proofs.Common.{◌∙◌, List, Option}
+use Rattle.std.proofs.Common.{◌∙◌, Option}
 use Rattle.outside.specs.Files.{Files}
-use Rattle.cursor_serve.specs.ServingStands.{OpenCursor}
 use Rattle.embedded_example.specs.Steps.{cursors_of}
 use Rattle.embedded_example.proofs.TurnLemmas.{begins}
 use Rattle.embedded_example.proofs.turns.begin.Goals as goal

@@ -1,13 +1,18 @@
-use Rattle.std.proofs.Common.{List, [], Option, subst, sym}
+use Rattle.std.proofs.Common.{[], Option, subst, sym}
 use Rattle.outside.specs.Files.{Files, Lacks}
 use Rattle.values.specs.Columns.{rows_of}
 use Rattle.segment_file.specs.Ordered.{ordered}
 use Rattle.table_store.specs.Kept.{kept_name}
-use Rattle.cursor_serve.specs.ServingStands.{OpenCursor}
 use Rattle.cursors.specs.Kept.{cursors_in}
 use Rattle.embedded_example.specs.Steps.{IsOpened, Leads, begun, cursors_of, early_name}
 use Rattle.embedded_example.proofs.TurnLemmas.{both_begin, not_large}
 use Rattle.embedded_example.proofs.turns.begin_both.Goals as goal
+
+pub begin-requires-2-clause-over : goal.begin-requires-2-clause-over
+begin-requires-2-clause-over g c = record {
+  cursors = c.in_ok-replace_live.ensures.cursors;
+  over = c.in_ok-replace_live.ensures.over c.args.table.now c.in_ok-begin.ensures.over.over;
+}
 
 pub returns : goal.returns
 returns g c =

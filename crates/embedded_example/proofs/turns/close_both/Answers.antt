@@ -1,4 +1,4 @@
-use Rattle.std.proofs.Common.{List, Option}
+use Rattle.std.proofs.Common.{Option}
 use Rattle.outside.specs.Files.{Files}
 use Rattle.embedded_example.specs.Steps.{cursors_of}
 use Rattle.embedded_example.proofs.TurnLemmas.{both_close}
