@@ -199,10 +199,10 @@ module _ (table : Table) (early late : BoundQuery) (name : List ℕ) (rows : Lis
     turned files told texts m stands free unicode =
         let lacks : Lacks d0 (kept_name name 1) = subst (λ d. Lacks d (kept_name name 1)) (sym told) free in
         let all = led_then table (λ m. both_fetched (begun_both m)) both_closed (λ m. AreBegun early late name R m × AreFetched first second (begun_both m)) (λ m. Unit {0}) [] c2 c3 d0 d2 d3
-            (led_then table begun_both both_fetched (AreBegun early late name R) (AreFetched first second) [] c1 c2 d0 d1 d2 (s.begin lacks unicode) s.fetch) s.close in
+        (led_then table begun_both both_fetched (AreBegun early late name R) (AreFetched first second) [] c1 c2 d0 d1 d2 (s.begin lacks unicode) s.fetch) s.close in
         let end : Left d3 (λ left. ((AreBegun early late name R m × AreFetched first second (begun_both m)) × Unit {0}) × ServingStands c3 left texts table (both_closed (both_fetched (begun_both m)))) =
-            left_with d3 (λ left. ((AreBegun early late name R m × AreFetched first second (begun_both m)) × Unit {0}) × ServingStands c3 left texts table (both_closed (both_fetched (begun_both m))))
-            (subst (λ d. Leads table (λ m. both_closed (both_fetched (begun_both m))) (λ m. (AreBegun early late name R m × AreFetched first second (begun_both m)) × Unit {0}) [] c3 d d3) told all texts m stands) in
+        left_with d3 (λ left. ((AreBegun early late name R m × AreFetched first second (begun_both m)) × Unit {0}) × ServingStands c3 left texts table (both_closed (both_fetched (begun_both m))))
+        (subst (λ d. Leads table (λ m. both_closed (both_fetched (begun_both m))) (λ m. (AreBegun early late name R m × AreFetched first second (begun_both m)) × Unit {0}) [] c3 d d3) told all texts m stands) in
         let b = end.has.0.0.0 in
         let f = end.has.0.0.1 in
         let E = early_name in

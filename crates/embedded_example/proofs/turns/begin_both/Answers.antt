@@ -25,7 +25,7 @@ returns g c =
     let d3 : Option Files = g.D.Shelf.held c.begin-2.new.depot in
     let c1 = cursors_of c.begin.new.serving in
     let first : Leads table (begun early_name early) (IsOpened early_name early) [] c1 d0 d1 =
-        subst (λ ds. Leads table (begun early_name early) (IsOpened early_name early) (cursors_in c.in_ok-serving.serving.pool ds) c1 d0 d1) c.in_ok-serving.ensures.none c.in_ok-begin.ensures.begun in
+    subst (λ ds. Leads table (begun early_name early) (IsOpened early_name early) (cursors_in c.in_ok-serving.serving.pool ds) c1 d0 d1) c.in_ok-serving.ensures.none c.in_ok-begin.ensures.begun in
     record {
       begun = λ lacks unicode. both_begin table early c.args.late name (ordered table.settings.sorted (rows_of c.args.rows)) [] c1 (cursors_of c.replace_live.new.self) (cursors_of c.begin-2.new.serving) d0 d1 d2 d3
           first (c.in_ok-replace_live.ensures.serves (subst (λ d. Lacks d (kept_name name 1)) (sym c.in_ok-begin.ensures.held) lacks) unicode not_large) c.in_ok-begin-2.ensures.begun;
