@@ -3,7 +3,6 @@ ghost use Rattle.std.specs.Prelude.{◌≡◌, [], IfOk, OnOk, length};
 ghost use Rattle.std.specs.List.{All};
 ghost use Rattle.outside.specs.Files.{Lacks};
 ghost use Rattle.values.specs.Columns.{rows_of};
-ghost use Rattle.table_schema.specs.ValidQuery.{IsValidQuery};
 ghost use Rattle.table_schema.specs.ValidTable.{AreRows, IsValidTable};
 ghost use Rattle.table_schema.specs.declared.table.Table.{Table as ATable};
 ghost use Rattle.segment_file.specs.Names.{IsSegmentName};
@@ -11,6 +10,7 @@ ghost use Rattle.segment_file.specs.Ordered.{ordered};
 ghost use Rattle.table_store.specs.Images.{IsUnicode};
 ghost use Rattle.table_store.specs.Kept.{kept_name};
 ghost use Rattle.cursors.specs.Kept.{AreCursors};
+ghost use Rattle.serving.specs.Asked.{IsCursorQuery};
 ghost use Rattle.embedded_example.specs.Steps.{AreBegun, AreFetched, AreOver, IsOpened, Leads, begun, both_begun, both_closed, both_fetched, cursors_of};
 ghost use Rattle.embedded_example.specs.Turns.{LeavesReplaced, PrintOwn};
 
@@ -34,8 +34,8 @@ pub fn take_turns<D: Depot>(
     rows: Columns,
 ) -> Result<(Bytes, Bytes), ServeFault>
     requires valid { IsValidTable table.now }
-    requires early { IsValidQuery table.now early }
-    requires late { IsValidQuery table.now late }
+    requires early { IsCursorQuery table.now early }
+    requires late { IsCursorQuery table.now late }
     requires name { IsSegmentName name.now }
     requires width { length rows.columns ≡ length table.now.schema.fields }
     requires rows { AreRows table.now.schema.fields (rows_of rows) }
@@ -62,8 +62,8 @@ fn begin_both<D: Depot>(
     rows: Columns,
 ) -> Result<Serving, ServeFault>
     requires valid { IsValidTable table.now }
-    requires early { IsValidQuery table.now early }
-    requires late { IsValidQuery table.now late }
+    requires early { IsCursorQuery table.now early }
+    requires late { IsCursorQuery table.now late }
     requires name { IsSegmentName name.now }
     requires width { length rows.columns ≡ length table.now.schema.fields }
     requires rows { AreRows table.now.schema.fields (rows_of rows) }
@@ -92,7 +92,7 @@ fn begin<D: Depot>(
     query: BoundQuery,
 ) -> Result<(), ServeFault>
     requires valid { IsValidTable table.now }
-    requires query { IsValidQuery table.now query }
+    requires query { IsCursorQuery table.now query }
     requires over { AreOver table.now serving.old }
     ensures begun { OnOk result (Leads table.now (begun cursor.now query)
         (IsOpened cursor.now query) (cursors_of serving.old) (cursors_of serving.new)
