@@ -47,13 +47,14 @@ struct MadeKey {
     values: Vec<Option<Value>>,
 }
 
-// Where the group of a key is looked for first: at the place that is noted for ids like its own,
-// and after the group of the last key, since keys come in the order of their ids, and most groups
-// began in it.
+// Where the group of a key is looked for first: after the group of the last key, since keys come in
+// the order of their ids, and most groups began in it; then at the place that is noted for ids of
+// its hash.
 #[derive(Clone, Copy)]
-struct Likely {
-    noted: Option<u32>,
+struct Likely<'a> {
     next: u32,
+    places: &'a [u64],
+    hash: u64,
 }
 
 impl GroupRoom {
@@ -72,9 +73,11 @@ impl GroupRoom {
         }
     }
 
-    // Notes where the group of ids of this hash was.
+    // Notes where the group of ids of this hash was, unless it was the next one.
     fn meet(&mut self, hash: u64, place: u32) {
-        note(&mut self.places, hash, place);
+        if place != self.next {
+            note(&mut self.places, hash, place);
+        }
         self.next = place.wrapping_add(1);
     }
 
@@ -175,8 +178,9 @@ fn merge_ids(
 {
     let hash = hash_of(&room.ids);
     let likely = Likely {
-        noted: guess(&room.places, hash),
         next: room.next,
+        places: &room.places,
+        hash,
     };
     let alloc = room.alloc;
     let known = match known_place(
@@ -209,7 +213,7 @@ fn known_place(
     segment: &SegmentColumns<'_>,
     columns: &[u16],
     ids: &[u32],
-    likely: Likely,
+    likely: Likely<'_>,
     table: &GroupTable,
     made: &mut MadeKey,
 ) -> Result<Option<u32>, NoMemory>
@@ -219,13 +223,13 @@ fn known_place(
     ensures { IfOk result (λ known. OfKey segment.now columns.now ids.now (λ own.
         MatchOption known (made.new.key ≡ own) (IsKeyAt table.now own))) }
 {
-    if let Some(place) = likely.noted {
+    if has_key(segment, columns, ids, table, likely.next) {
+        return Ok(Some(likely.next));
+    }
+    if let Some(place) = guess(likely.places, likely.hash) {
         if has_key(segment, columns, ids, table, place) {
             return Ok(Some(place));
         }
-    }
-    if has_key(segment, columns, ids, table, likely.next) {
-        return Ok(Some(likely.next));
     }
     let room = replace(&mut made.key, Row::new(alloc));
     let key = key_by_ids(alloc, segment, columns, ids, room, &mut made.values)?;
