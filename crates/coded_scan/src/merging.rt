@@ -276,6 +276,7 @@ fn is_key(segment: &SegmentColumns<'_>, columns: &[u16], ids: &[u32], key: &Row)
 }
 
 // Whether a value is that of an id in a field that is looked at.
+#[inline(always)]
 fn is_value(segment: &SegmentColumns<'_>, field: u16, id: u32, value: &Value) -> bool
     requires { IsIdOfRow segment.now field id }
     ensures { OnTrue result (OfId segment.now field id (λ own. value.now ≡ own)) }
@@ -287,6 +288,7 @@ fn is_value(segment: &SegmentColumns<'_>, field: u16, id: u32, value: &Value) ->
 }
 
 // Whether a value is the one at an id.
+#[inline(always)]
 fn has_value(dictionary: &Dictionary, id: u32, value: &Value) -> bool
     requires { id < length dictionary.now.values }
     ensures { OnTrue result (slice_get dictionary.now.values id ≡ Some value.now) }
