@@ -7,14 +7,19 @@ use Rattle.agg_laws.specs.Numbers.{IsWhole, most_values}
 use Rattle.state_columns.specs.Columns.{all_added}
 
 module _ {S : Type 0} (add : S → ℤ → S) (unit : S) where
-  -- of those that are left the first is added now
-  pub added-next : (places : List ℕ) (values : List ℤ) (states : List S) (k : ℕ) → k < length places
-      → length values ≡ length places → all_added add unit (drop k places) (drop k values) states
-      ≡ all_added add unit (drop (k + 1) places) (drop (k + 1) values) (set states (get_or places k 0)
-      (add (get_or states (get_or places k 0) unit) (get_or values k (pos 0))))
-  added-next places values states k lt same =
-      (λ i. all_added add unit (drop_more places k 0 lt i)
-      (drop_more values k (pos 0) (omega (arith, lt, same)) i) states)
+  -- of those that are left the first is added
+  pub added-next : (places : List ℕ) (values : List ℤ) (states all : List S) (k : ℕ) (new : S)
+      → k < length places → length values ≡ length places
+      → new ≡ add (get_or states (get_or places k 0) unit) (get_or values k (pos 0))
+      → all_added add unit (drop k places) (drop k values) states ≡ all
+      → all_added add unit (drop (k + 1) places) (drop (k + 1) values)
+      (set states (get_or places k 0) new) ≡ all
+  added-next places values states all k new lt same is so_far =
+      ap (λ s. all_added add unit (drop (k + 1) places) (drop (k + 1) values)
+      (set states (get_or places k 0) s)) is
+      ∙ (λ i. all_added add unit (sym (drop_more places k 0 lt) i)
+      (sym (drop_more values k (pos 0) (omega (arith, lt, same))) i) states)
+      ∙ so_far
 
   -- none is left
   pub added-none : (places : List ℕ) (values : List ℤ) (states : List S) (k : ℕ) → length places ≤ k

@@ -60,11 +60,8 @@ loop-k-preserved g c =
     c.add.ensures ∙ (λ i. a.merged (here i) (a.of (same i ∷ []))) in
     let next : n + 1 ≡ most_values - length places + (k + 1) = omega arith in
     record {
-      added = ap (λ s. all_added (λ t v. a.merged t (a.of (v ∷ []))) a.empty (drop (k + 1) places)
-          (drop (k + 1) values) (set states place s)) new
-          ∙ sym (steps.added-next (λ t v. a.merged t (a.of (v ∷ []))) a.empty places values states k
-          in_places c.requires.same)
-          ∙ c.loop-k.invariant.added;
+      added = steps.added-next (λ s v. a.merged s (a.of (v ∷ []))) a.empty places values states _ k
+          c.add.new.state in_places c.requires.same new c.loop-k.invariant.added;
       fits = subst (λ s. (i : ℕ) → i < length (set states place s)
           → a.fits (get_or (set states place s) i a.empty) (most_values - length places + (k + 1)))
           (sym new)
