@@ -1,5 +1,5 @@
 //! Bytes of a segment's file are read.
-ghost use Rattle.std.specs.Prelude.{◌≡◌, ◌<◌, ◌+◌, ◌^◌, IfOk, IfErr, IfSome, OnErr, IsErrOf, Some, length};
+ghost use Rattle.std.specs.Prelude.{◌≡◌, ◌<◌, ◌+◌, ◌^◌, IfOk, IfErr, IfSome, OnErr, OnOk, IsErrOf, Some, length};
 ghost use Rattle.outside.specs.Files.{bytes_at, bytes_of};
 ghost use Rattle.outside.specs.Reads.{LogsThrough, LogsUpTo};
 ghost use Rattle.outside.specs.Seen.{OnlyReads, seen};
@@ -8,7 +8,7 @@ ghost use Rattle.segment_file.specs.declared.part.Part.{Part};
 ghost use Rattle.segment_file.specs.declared.part.Part.TheVariants as part;
 
 use crate::{HeadFault, Part};
-use outside::{Bytes, Shelf, ShelfFault, read_bytes};
+use outside::{Bytes, Shelf, ShelfFault, read_bytes, read_into};
 use std::alloc::Global;
 
 /// So many bytes of a file from an offset on. Where the file ends before, its front says what it is
@@ -43,6 +43,38 @@ pub fn read_exactly<S: Shelf>(
         return Err(HeadFault::NotASegment(Part::Head));
     }
     Ok(bytes)
+}
+
+/// The same, in place of other bytes: as many as there are.
+pub fn fill_exactly<S: Shelf>(
+    alloc: Global,
+    shelf: &mut S,
+    file: &str,
+    offset: u64,
+    into: &mut [u8],
+) -> Result<(), HeadFault>
+    requires some { 0 < offset + length into.old }
+    requires fits { offset + length into.old < 2 ^ 64 }
+    ensures bytes { OnOk result (IfSome (S.held shelf.old) (λ files.
+        into.new ≡ bytes_at files file.now offset (length into.old))) }
+    ensures short { IfErr result (λ fault. (p : Part) → fault ≡ NotASegment p →
+        (p ≡ part.Head) × IfSome (S.held shelf.old) (λ files.
+        length (bytes_of (Some files) file.now) < offset + length into.old)) }
+    ensures only_reads { OnlyReads (IsErrOf result HeadFault.ReadFault)
+        (seen S.Shelf shelf.old) (seen S.Shelf shelf.new) }
+    ensures log { OnOk result (LogsThrough file.now offset (offset + length into.old)
+        (S.log shelf.old) (S.log shelf.new)) }
+    ensures log_of_fault { OnErr result
+        (LogsUpTo file.now offset (offset + length into.old) (S.log shelf.old) (S.log shelf.new)) }
+{
+    let count = match read_into(alloc, shelf, file, offset, into) {
+        Ok(count) => count,
+        Err(fault) => return Err(HeadFault::from(fault)),
+    };
+    if count < into.len() {
+        return Err(HeadFault::NotASegment(Part::Head));
+    }
+    Ok(())
 }
 
 /// How many bytes a file has; one that is missing has none.

@@ -135,15 +135,17 @@ fn push_pieces<S: Shelf>(
         (place.now.offset + place.now.length) (S.log shelf.old) (S.log shelf.new) }
 {
     let file = place.file.as_str();
+    let mut room = vec![in alloc; 0u8; 8 * MOST_NUMBERS.min(count) as usize]?;
     let mut done = 0;
     'pieces: while done < count {
         let many = MOST_NUMBERS.min(count - done);
         let at = place.offset + 4 + 8 * done as u64;
-        let bytes = match read_exactly(alloc, shelf, file, at, 8 * many as u64) {
-            Ok(bytes) => bytes,
+        let bytes = &mut room[..8 * many as usize];
+        match fill_exactly(alloc, shelf, file, at, bytes) {
+            Ok(()) => {}
             Err(fault) => return Err(fault),
-        };
-        match push_numbers(kind, bytes.as_slice(), numbers) {
+        }
+        match push_numbers(kind, bytes, numbers) {
             Ok(()) => {}
             Err(fault) => return Err(of_dictionary(fault, column)),
         }
