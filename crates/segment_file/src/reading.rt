@@ -45,33 +45,36 @@ pub fn read_exactly<S: Shelf>(
     Ok(bytes)
 }
 
-/// The same, in place of other bytes: as many as there are.
+/// The same, in place of other bytes.
 pub fn fill_exactly<S: Shelf>(
     alloc: Global,
     shelf: &mut S,
     file: &str,
     offset: u64,
-    into: &mut [u8],
+    count: u64,
+    into: &mut Vec<u8>,
 ) -> Result<(), HeadFault>
-    requires some { 0 < offset + length into.old }
-    requires fits { offset + length into.old < 2 ^ 64 }
+    requires some { 0 < offset + count }
+    requires fits { offset + count < 2 ^ 64 }
     ensures bytes { OnOk result (IfSome (S.held shelf.old) (λ files.
-        into.new ≡ bytes_at files file.now offset (length into.old))) }
+        into.new.items ≡ bytes_at files file.now offset count)) }
+    ensures size { OnOk result (length into.new.items ≡ count) }
     ensures short { IfErr result (λ fault. (p : Part) → fault ≡ NotASegment p →
         (p ≡ part.Head) × IfSome (S.held shelf.old) (λ files.
-        length (bytes_of (Some files) file.now) < offset + length into.old)) }
+        length (bytes_of (Some files) file.now) < offset + count)) }
     ensures only_reads { OnlyReads (IsErrOf result HeadFault.ReadFault)
         (seen S.Shelf shelf.old) (seen S.Shelf shelf.new) }
-    ensures log { OnOk result (LogsThrough file.now offset (offset + length into.old)
+    ensures log { OnOk result (LogsThrough file.now offset (offset + count)
         (S.log shelf.old) (S.log shelf.new)) }
     ensures log_of_fault { OnErr result
-        (LogsUpTo file.now offset (offset + length into.old) (S.log shelf.old) (S.log shelf.new)) }
+        (LogsUpTo file.now offset (offset + count) (S.log shelf.old) (S.log shelf.new)) }
 {
-    let count = match read_into(alloc, shelf, file, offset, into) {
-        Ok(count) => count,
+    into.resize(count as usize, 0)?;
+    let read = match read_into(alloc, shelf, file, offset, into) {
+        Ok(read) => read,
         Err(fault) => return Err(HeadFault::from(fault)),
     };
-    if count < into.len() {
+    if (read as u64) < count {
         return Err(HeadFault::NotASegment(Part::Head));
     }
     Ok(())
