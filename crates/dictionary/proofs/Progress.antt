@@ -30,7 +30,7 @@ pub above_from : (o : Option Value) (v : Value) → is_above o v ≡ true → If
 above_from None v e = tt
 above_from (Some last) v e = less_from (value_order last v) e
 
-is_above_from : (o : Option Value) (v : Value) → IfSome o (λ last. value_order last v ≡ order.Less) → is_above o v ≡ true
+pub is_above_from : (o : Option Value) (v : Value) → IfSome o (λ last. value_order last v ≡ order.Less) → is_above o v ≡ true
 is_above_from None v h = refl
 is_above_from (Some last) v h = ap is_lt h
 
@@ -59,7 +59,7 @@ none_read kind whole left forth back = record {
 }
 
 -- a value in the middle
-at_seam : (P : Value → Type 0) (vs : List Value) (v : Value) (more : List Value) → All P (vs ++ v ∷ more) → P v
+pub at_seam : (P : Value → Type 0) (vs : List Value) (v : Value) (more : List Value) → All P (vs ++ v ∷ more) → P v
 at_seam P vs v more all = subst P (get_or-append_seam vs v more v) (all (length vs) v (omega (arith, length-append vs (v ∷ more))))
 
 pub read_more : (kind : FieldKind) (whole left following : List Value → Type 0) (vs : List Value) (v : Value) → IsRead kind whole left vs → Fits kind v → IsUnicode v → is_above_last vs v ≡ true

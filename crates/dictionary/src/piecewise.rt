@@ -1,9 +1,11 @@
 //! Numbers of a dictionary that is read piece by piece.
 
-ghost use Rattle.std.specs.Prelude.{◌≡◌, ◌≢◌, ◌*◌, ◌++◌, ◌∷◌, [], List, ℕ, length, map, IfErr, OnOk};
+ghost use Rattle.std.specs.Prelude.{◌≡◌, ◌≢◌, ◌<◌, ◌≤◌, ◌*◌, ◌++◌, List, ℕ, true, false, length, map, IfErr, OnOk};
+ghost use Rattle.std.specs.List.{All};
+ghost use Rattle.data_types.specs.Numbers.{is_in_range};
 ghost use Rattle.values.specs.declared.value.Value.TheVariants as value;
-ghost use Rattle.dictionary.specs.Pieces.{AreNumbersOf, NoNumbers};
-ghost use Rattle.dictionary.specs.Reading.{is_above_last};
+ghost use Rattle.dictionary.specs.Pieces.{AreNumbersOf, NoNumbers, follows};
+ghost use Rattle.dictionary.specs.Spelling.{numbers};
 ghost use Rattle.value_ids.specs.Dictionary.{IsDictionary};
 
 use crate::{DictFault, Dictionary, is_in_range, number_of};
@@ -21,16 +23,14 @@ pub fn push_numbers(kind: FieldKind, bytes: &[u8], numbers: &mut Vec<i64>) -> Re
         (before after : List ℕ) → AreNumbersOf kind before (map value.Whole numbers.old.items) →
         NoNumbers kind (before ++ (bytes.now ++ after))) }
 {
-    let mut rest = bytes;
-    while let Some((chunk, following)) = rest.split_first_chunk::<8>() {
-        let number = number_of(chunk);
-        if !is_in_range(kind, number) || !is_greater(numbers, number) {
-            return Err(DictFault::BadDictionary);
-        }
-        keep(numbers, number)?;
-        rest = following;
+    let start = numbers.len();
+    numbers.resize(start + bytes.len() / 8, 0)?;
+    put_numbers(bytes, &mut numbers[start..]);
+    if go_on(kind, numbers, start) {
+        Ok(())
+    } else {
+        Err(DictFault::BadDictionary)
     }
-    Ok(())
 }
 
 impl Dictionary {
@@ -46,24 +46,40 @@ impl Dictionary {
     }
 }
 
-// Whether a number is greater than the last one, if there is one.
-#[inline(always)]
-fn is_greater(numbers: &[i64], number: i64) -> bool
-    ensures { result ≡ is_above_last (map value.Whole numbers.now) (value.Whole number) }
+// Writes the numbers that these bytes spell.
+fn put_numbers(bytes: &[u8], into: &mut [i64])
+    requires { length bytes.now ≡ 8 * length into.old }
+    ensures spelled { numbers (map value.Whole into.new) ≡ bytes.now }
+    ensures within { All (λ number. is_in_range FieldKind.Long number ≡ true) into.new }
 {
-    match numbers.last() {
-        None => true,
-        Some(last) => *last < number,
+    let mut rest = bytes;
+    let mut at = 0;
+    while let Some((chunk, following)) = rest.split_first_chunk::<8>() {
+        into[at] = number_of(chunk);
+        at += 1;
+        rest = following;
     }
 }
 
-#[inline(always)]
-fn keep(numbers: &mut Vec<i64>, number: i64) -> Result<(), DictFault>
-    ensures ok { OnOk result (numbers.new.items ≡ numbers.old.items ++ number ∷ []) }
-    ensures err { IfErr result (λ fault. fault ≡ DictFault.NoMemory) }
+// Whether each number from a place on follows those before it.
+fn go_on(kind: FieldKind, numbers: &[i64], start: usize) -> bool
+    ensures yes { result ≡ true → (k : ℕ) → start ≤ k → k < length numbers.now →
+        follows kind numbers.now k ≡ true }
+    ensures no { result ≡ false → ¬ ((k : ℕ) → start ≤ k → k < length numbers.now →
+        follows kind numbers.now k ≡ true) }
 {
-    match numbers.push(number) {
-        Ok(()) => Ok(()),
-        Err(_) => Err(DictFault::NoMemory),
+    let mut all = true;
+    for at in start..numbers.len() {
+        all &= follows(kind, numbers, at);
     }
+    all
+}
+
+// Whether a number is in range and greater than the one before it, if there is one.
+#[inline(always)]
+fn follows(kind: FieldKind, numbers: &[i64], at: usize) -> bool
+    requires { at < length numbers.now }
+    ensures { result ≡ follows kind numbers.now at }
+{
+    is_in_range(kind, numbers[at]) & (at == 0 || numbers[at - 1] < numbers[at])
 }
