@@ -118,6 +118,15 @@ impl Dictionary {
         self.values.as_numbers()
     }
 
+    /// The numbers by their ids, without the dictionary, if the values are no texts.
+    pub fn into_numbers(self) -> Option<Vec<i64>>
+        ensures { MatchOption result
+            (AreTexts self.values)
+            (λ numbers. self.values ≡ map value.Whole numbers.items) }
+    {
+        self.values.into_numbers()
+    }
+
     /// The text of an id, if the values are no numbers.
     pub fn text_at(&self, id: u32) -> Option<&str>
         requires { id < length self.now.values }

@@ -7,4 +7,5 @@ pub mod IdLemmas
 pub mod ListLemmas
 pub mod MaskLemmas
 pub mod MatchLemmas
+pub mod RunLemmas
 pub mod SetLemmas

@@ -20,7 +20,7 @@ same_place : (q id : ℕ) (t : Bool) → q / 64 ≡ id / 64 → nat_eq q id ≡ 
 same_place q id true word e = eq-eqb (q % 64) (id % 64) (ap (λ n. n % 64) (eqb-true q id e))
 same_place q id false word e = ne_eqb (q % 64) (id % 64) (λ same. eqb-false q id e (let whole : q ≡ id = omega (arith, word, same) in whole))
 
-set_by : (mask : List ℕ) (id q : ℕ) (t : Bool) → id / 64 < length mask → nat_eq (q / 64) (id / 64) ≡ t
+pub set_by : (mask : List ℕ) (id q : ℕ) (t : Bool) → id / 64 < length mask → nat_eq (q / 64) (id / 64) ≡ t
     → has_bit (set mask (id / 64) (bit_or (get_or mask (id / 64) 0) (1 * 2 ^ (id % 64) % 18446744073709551616))) q ≡ nat_eq q id || has_bit mask q
 set_by mask id q true room e =
     let word : q / 64 ≡ id / 64 = eqb-true (q / 64) (id / 64) e in
@@ -41,13 +41,13 @@ one_bit mask id q old room is =
 
 -- ---- sets with a mask
 
-or_turn : (a b : Bool) → a || b ≡ b || a
+pub or_turn : (a b : Bool) → a || b ≡ b || a
 or_turn true true = refl
 or_turn true false = refl
 or_turn false true = refl
 or_turn false false = refl
 
-or_none : (a : Bool) → a || false ≡ a
+pub or_none : (a : Bool) → a || false ≡ a
 or_none true = refl
 or_none false = refl
 

@@ -77,12 +77,8 @@ run_at from to id le lt = (λ i. le-leb from id le i && lt-ltb id to lt i)
 pub run_before : (from to q : ℕ) → q < from → is_within from to q ≡ false
 run_before from to q lt = ap (λ b. b && nat_lt q to) (lt-leb from q lt)
 
-pub run_following : (from to i q : ℕ) → (from ≤ to → to ≤ i) → (from ≤ i) → i ≤ q → is_within from to q ≡ false
-run_following from to i q end start le =
-    elim (cases_lt q to) [
-      | inl lt ↦ absurd (let past = end (omega (arith, start, le, lt)) in let no : ⊥ = omega (arith, past, le, lt) in no)
-      | inr past ↦ ap (λ b. nat_le from q && b) (le-ltb q to past) ∙ and_none (nat_le from q)
-    ]
+pub run_past : (from to q : ℕ) → to ≤ q → is_within from to q ≡ false
+run_past from to q past = ap (λ b. nat_le from q && b) (le-ltb q to past) ∙ and_none (nat_le from q)
   where
     and_none : (b : Bool) → b && false ≡ false
     and_none true = refl

@@ -1,9 +1,10 @@
 //! Ascending lists of ids, with a mask of them.
 
-ghost use Rattle.std.specs.Prelude.{◌≡◌, ◌<◌, ◌==◌, [], ◌∷◌, ◌++◌, length, slice_get, Some, OnOk, OnErr};
+ghost use Rattle.std.specs.Prelude.{◌≡◌, ◌<◌, ◌≤◌, ◌==◌, ◌+◌, ◌-◌, ◌^◌, [], ◌∷◌, ◌++◌, length, slice_get, take, Some, OnOk, OnErr};
+ghost use Rattle.std.specs.List.{range_with_len};
 ghost use Rattle.value_ids.specs.Ids.{has_id, IsAboveLast, IsIdSet};
 
-use crate::mask::{has_bit, make_room, set_bit};
+use crate::mask::{has_bit, make_room, set_bit, set_run};
 use std::alloc::{AllocError, Global};
 use std::marker::Model;
 use values::NoMemory;
@@ -83,5 +84,33 @@ impl IdSet {
         self.ids.push(id)?;
         set_bit(&mut self.mask, id);
         Ok(())
+    }
+
+    /// Adds the ids from one that is greater than the last up to another.
+    pub(crate) fn push_run(&mut self, from: u32, to: u32) -> Result<(), NoMemory>
+        requires { from < to → IsAboveLast self.old from }
+        ensures ok { OnOk result (self.new ≡ self.old ++ range_with_len from (to - from)) }
+        ensures err { OnErr result (self.new ≡ self.old) }
+    {
+        if from >= to {
+            return Ok(());
+        }
+        make_room(&mut self.mask, to - 1)?;
+        let start = self.ids.len();
+        self.ids.resize(start + (to - from) as usize, 0)?;
+        count_from(from, start, &mut self.ids);
+        set_run(&mut self.mask, from, to);
+        Ok(())
+    }
+}
+
+// Writes ids that follow each other, the first of them at this place.
+fn count_from(first: u32, start: usize, ids: &mut [u32])
+    requires start { start ≤ length ids.old }
+    requires room { first + (length ids.old - start) ≤ 2 ^ 32 }
+    ensures { ids.new ≡ take start ids.old ++ range_with_len first (length ids.old - start) }
+{
+    for at in start..ids.len() {
+        ids[at] = first + (at - start) as u32;
     }
 }

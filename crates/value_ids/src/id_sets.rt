@@ -11,9 +11,7 @@ pub fn range_of(alloc: Global, from: u32, to: u32) -> Result<IdSet, NoMemory>
     ensures { IfOk result (AreThose (is_within from to)) }
 {
     let mut ids = IdSet::new(alloc);
-    for id in from..to {
-        ids.push(id)?;
-    }
+    ids.push_run(from, to)?;
     Ok(ids)
 }
 
@@ -22,12 +20,13 @@ pub fn complement_of(alloc: Global, count: u32, ids: &IdSet) -> Result<IdSet, No
     ensures { IfOk result (AreThose (is_outside count ids.now)) }
 {
     let mut outside = IdSet::new(alloc);
-    for id in 0..count {
-        if ids.contains(id) {
-            continue;
-        }
-        outside.push(id)?;
+    let mut next = 0;
+    let list = ids.as_slice();
+    for id in list {
+        outside.push_run(next, (*id).min(count))?;
+        next = id.saturating_add(1);
     }
+    outside.push_run(next, count)?;
     Ok(outside)
 }
 

@@ -1,6 +1,6 @@
 //! Masks of ids: a bit for each, 64 of them a word.
-ghost use Rattle.std.specs.Prelude.{◌≡◌, ◌<◌, ◌/◌, ◌||◌, ℕ, length, nat_eq, OnOk};
-ghost use Rattle.value_ids.specs.Ids.{has_bit, SameBits};
+ghost use Rattle.std.specs.Prelude.{◌≡◌, ◌<◌, ◌≤◌, ◌*◌, ◌/◌, ◌||◌, ℕ, length, nat_eq, OnOk};
+ghost use Rattle.value_ids.specs.Ids.{has_bit, is_within, SameBits};
 
 use std::alloc::AllocError;
 
@@ -33,4 +33,24 @@ pub fn set_bit(mask: &mut Vec<u64>, id: u32)
     ensures { (q : ℕ) → has_bit mask.new.items q ≡ nat_eq q id || has_bit mask.old.items q }
 {
     mask[id as usize / 64] |= 1 << (id % 64);
+}
+
+/// Sets the bits of the ids from one up to another, whole words at once.
+pub fn set_run(mask: &mut [u64], from: u32, to: u32)
+    requires order { from ≤ to }
+    requires room { to ≤ 64 * length mask.old }
+    ensures { (q : ℕ) → has_bit mask.new q ≡ is_within from to q || has_bit mask.old q }
+{
+    let end = to as usize;
+    let mut id = from as usize;
+    while id < end {
+        let word = &mut mask[id / 64];
+        if id % 64 == 0 && id + 64 <= end {
+            *word = u64::MAX;
+            id += 64;
+        } else {
+            *word |= 1 << (id % 64);
+            id += 1;
+        }
+    }
 }

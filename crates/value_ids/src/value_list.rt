@@ -88,6 +88,19 @@ impl ValueList {
         }
     }
 
+    /// The numbers themselves, if they are no texts.
+    pub fn into_numbers(self) -> Option<Vec<i64>>
+        ensures { MatchOption result
+            (AreTexts self)
+            (λ numbers. self ≡ map value.Whole numbers.items) }
+    {
+        match self.cells {
+            Cells::Numbers(numbers) => Some(numbers),
+            Cells::Texts(_) => None,
+            Cells::Block(_) => None,
+        }
+    }
+
     /// The bytes of the text at a place, if it is no number.
     #[inline(always)]
     pub fn text_at(&self, at: usize) -> Option<&[u8]>

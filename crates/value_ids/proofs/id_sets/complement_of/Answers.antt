@@ -1,21 +1,29 @@
-use Rattle.std.proofs.Common.{arith, sym, ◌∙◌}
-use Rattle.value_ids.specs.Ids.{is_outside}
-use Rattle.value_ids.proofs.SetLemmas.{outside_at, outside_past, pass_above, pass_end, pass_no, pass_none, pass_yes}
+use Rattle.std.proofs.Common.{◌≡◌, ◌<◌, ◌≤◌, ◌+◌, arith, get_or, refl, subst, sym}
+use Rattle.std.specs.List.Sorted.{IsStrictlySortedBy}
+use Rattle.std.specs.Ordering.{nat_cmp}
+use Rattle.value_ids.specs.Ids.{AreThose, is_outside}
+use Rattle.value_ids.proofs.RunLemmas.{leave_end, leave_run}
+use Rattle.value_ids.proofs.SetLemmas.{pass_above}
 use Rattle.value_ids.proofs.id_sets.complement_of.Goals as goal
 
-pub push-requires : goal.push-requires
-push-requires c = pass_above (is_outside c.args.count c.args.ids.now) c.loop-id.id c.loop-id.outside c.loop-id.invariant
+pub push_run-requires : goal.push_run-requires
+push_run-requires c = λ _. pass_above (is_outside c.args.count c.as_slice-list.result.now) c.loop-id.next c.loop-id.outside c.loop-id.invariant.passed
 
-pub loop-id-init : goal.loop-id-init
-loop-id-init c = pass_none (is_outside c.args.count c.args.ids.now) 0 c.new-outside.result c.new-outside.ensures (λ q lt. absurd (omega (arith, lt)))
-
-pub loop-id-preserved-then-contains : goal.loop-id-preserved-then-contains
-loop-id-preserved-then-contains c =
-    pass_no (is_outside c.args.count c.args.ids.now) c.loop-id.id c.loop-id.outside (outside_at c.args.count c.loop-id.id c.args.ids.now _ c.loop-id-test.true (sym c.contains.ensures ∙ c.if-contains.true)) c.loop-id.invariant
+pub push_run-requires-2 : goal.push_run-requires-2
+push_run-requires-2 c = λ _. pass_above (is_outside c.args.count c.as_slice-list.result.now) c.loop-id.next c.loop-id.outside c.loop-id.invariant.passed
 
 pub loop-id-preserved : goal.loop-id-preserved
 loop-id-preserved c =
-    pass_yes (is_outside c.args.count c.args.ids.now) c.loop-id.id c.loop-id.outside c.push.new.self (outside_at c.args.count c.loop-id.id c.args.ids.now _ c.loop-id-test.true (sym c.contains.ensures ∙ c.if-contains.false)) c.loop-id.invariant c.in_ok-push.ensures.ok
+    let list = c.as_slice-list.result.now in
+    let id = get_or list c.loop-id.id-index 0 in
+    let low : id ≤ c.saturating_add-next.result = let small = c.type_inv.list c.loop-id.id-index in omega (arith, c.saturating_add-next.ensures, small) in
+    let high : c.saturating_add-next.result ≤ id + 1 = omega (arith, c.saturating_add-next.ensures) in
+    let one : c.saturating_add-next.result < c.args.count → c.saturating_add-next.result ≡ id + 1 = λ lt. omega (arith, c.saturating_add-next.ensures, lt, c.ranges.count.fits) in
+    leave_run c.args.count list c.loop-id.id-index c.loop-id.next id c.min.result c.saturating_add-next.result c.loop-id.outside c.push_run.new.self
+    (subst (IsStrictlySortedBy nat_cmp) (sym c.as_slice-list.ensures.same) c.as_slice-list.ensures.valid.ascends) c.loop-id-test.true refl c.min.ensures low high one c.loop-id.invariant c.in_ok-push_run.ensures.ok
 
 pub returns : goal.returns
-returns c = pass_end (is_outside c.args.count c.args.ids.now) c.loop-id.id c.loop-id.outside (λ q le. outside_past c.args.count q c.args.ids.now (omega (arith, c.loop-id-test.false, le))) c.loop-id.invariant
+returns c =
+    subst (λ ids. AreThose (is_outside c.args.count ids) c.push_run-2.new.self) c.as_slice-list.ensures.same
+    (leave_end c.args.count c.as_slice-list.result.now c.loop-id.id-index c.loop-id.next c.loop-id.outside c.push_run-2.new.self
+    (subst (IsStrictlySortedBy nat_cmp) (sym c.as_slice-list.ensures.same) c.as_slice-list.ensures.valid.ascends) c.loop-id-test.false c.loop-id.invariant c.in_ok-push_run-2.ensures.ok)

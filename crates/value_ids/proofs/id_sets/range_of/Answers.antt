@@ -1,16 +1,10 @@
-use Rattle.value_ids.specs.Ids.{is_within}
-use Rattle.value_ids.proofs.SetLemmas.{pass_above, pass_end, pass_none, pass_yes, run_at, run_before, run_following}
+use Rattle.std.proofs.Common.{◌∙◌, ◌||◌, ap}
+use Rattle.value_ids.specs.Ids.{has_id, is_within}
+use Rattle.value_ids.proofs.MaskLemmas.{or_none}
+use Rattle.value_ids.proofs.RunLemmas.{has_run}
 use Rattle.value_ids.proofs.id_sets.range_of.Goals as goal
 
-pub push-requires : goal.push-requires
-push-requires c = pass_above (is_within c.args.from c.args.to) c.loop-id.id c.loop-id.ids c.loop-id.invariant
-
-pub loop-id-init : goal.loop-id-init
-loop-id-init c = pass_none (is_within c.args.from c.args.to) c.args.from c.new-ids.result c.new-ids.ensures (run_before c.args.from c.args.to)
-
-pub loop-id-preserved : goal.loop-id-preserved
-loop-id-preserved c =
-    pass_yes (is_within c.args.from c.args.to) c.loop-id.id c.loop-id.ids c.push.new.self (run_at c.args.from c.args.to c.loop-id.id c.loop-id.auto.id c.loop-id-test.true) c.loop-id.invariant c.in_ok-push.ensures.ok
-
 pub returns : goal.returns
-returns c = pass_end (is_within c.args.from c.args.to) c.loop-id.id c.loop-id.ids (λ q le. run_following c.args.from c.args.to c.loop-id.id q (λ _. c.loop-id-test.false) c.loop-id.auto.id le) c.loop-id.invariant
+returns c = λ q.
+    let run = is_within c.args.from c.args.to q in
+    ap (λ ids. has_id ids q) c.in_ok-push_run.ensures.ok ∙ has_run c.new-ids.result c.args.from c.args.to q ∙ ap (λ ids. run || has_id ids q) c.new-ids.ensures ∙ or_none run
