@@ -4,6 +4,7 @@ use Rattle.std.specs.List.{All}
 use Rattle.std.proofs.lemmas.Bool.{cases_eq, cond-true, cond-false, eq-eqb, ne_eqb}
 use Rattle.std.proofs.lemmas.List.{get_or-set_other, get_or-set_same}
 use Rattle.std.proofs.Math.ListN.{length-set}
+use Rattle.std.proofs.lemmas.List.{length-append}
 use Rattle.std.proofs.lemmas.List.Elements.{All-head, All-tail}
 use Rattle.std.specs.Int.{w64}
 use Rattle.std.specs.Prelude.{FitsSigned}
@@ -11,7 +12,8 @@ use Rattle.std.proofs.lemmas.Int.{ints, to_z-of_z}
 use Rattle.std.proofs.lemmas.List.Sums.{sum_by-cons}
 use Rattle.agg_laws.specs.declared.aggregate_kind.AggKind.{AggKind}
 use Rattle.agg_laws.specs.declared.states.AggState.{AggState}
-use Rattle.state_columns.specs.Columns.{Column, replaced, state_at}
+use Rattle.state_columns.specs.Columns.{Column, replaced, state_at, with_values}
+use Rattle.value_ids.specs.Coding.{AreBelow}
 use Rattle.agg_laws.specs.Numbers.{AreWhole, IsWhole, SumFits, most_values, sum_of}
 use Rattle.agg_laws.specs.States.{Fits, merged, state_of, unit_of}
 use Rattle.agg_laws.specs.laws.States as states
@@ -50,14 +52,8 @@ in_slot-whole slot [] numbers whole = tt
 in_slot-whole slot (s ∷ slots) [] whole = tt
 in_slot-whole slot (s ∷ slots) (x ∷ numbers) whole = whole_more (s == slot) x (in_slot slot slots numbers) whole.0 (in_slot-whole slot slots numbers whole.1)
 
--- a state fits the rows so far, and one more
-pub one-fits : (column : Column) (slot n : ℕ) (x : ℤ) → Fits (state_at column slot) n → IsWhole x → n + 1 ≤ most_values → Fits (merged (state_at column slot) (state_of column.kind (x ∷ []))) most_values
-one-fits column slot n x h own le =
-    states.fits_more _ (n + 1) most_values
-    (states.fits_both (state_at column slot) (state_of column.kind (x ∷ [])) n 1 h (states.fits_of column.kind (x ∷ []) (own, tt))) le
-
 -- one number more
-pub more-next : (slots : List ℕ) (numbers : List ℤ) (old column : Column) (slot : ℕ) (x : ℤ) → MoreStates slots numbers old column → slot < length old.states → length slots ≡ length numbers
+more-next : (slots : List ℕ) (numbers : List ℤ) (old column : Column) (slot : ℕ) (x : ℤ) → MoreStates slots numbers old column → slot < length old.states → length slots ≡ length numbers
     → MoreStates (slots ++ slot ∷ []) (numbers ++ x ∷ []) old (replaced slot column (merged (state_at column slot) (state_of column.kind (x ∷ []))))
 more-next slots numbers old column slot x m lt same =
     let v : AggState = merged (state_at column slot) (state_of column.kind (x ∷ [])) in
@@ -86,27 +82,30 @@ more-next slots numbers old column slot x m lt same =
           ];
     }
 
-pub more-none : (column : Column) → MoreStates [] [] column column
-more-none column = record {
+-- each number comes to the state in its slot
+more-all : (done : List ℕ) (taken : List ℤ) (old column : Column) (slots : List ℕ) (numbers : List ℤ) → MoreStates done taken old column → length done ≡ length taken
+    → AreBelow (length old.states) slots → length numbers ≡ length slots → MoreStates (done ++ slots) (taken ++ numbers) old (with_values slots numbers column)
+more-all done taken old column [] [] m same below e =
+    subst (λ (ss : List ℕ). MoreStates ss (taken ++ []) old column) (sym (append-nil done)) (subst (λ (ns : List ℤ). MoreStates done ns old column) (sym (append-nil taken)) m)
+more-all done taken old column [] (x ∷ numbers) m same below e = absurd (omega (arith, e))
+more-all done taken old column (s ∷ slots) [] m same below e = absurd (omega (arith, e))
+more-all done taken old column (s ∷ slots) (x ∷ numbers) m same below e =
+    let new : Column = replaced s column (merged (state_at column s) (state_of column.kind (x ∷ []))) in
+    let next = more-next done taken old column s x m (All-head (λ i. i < length old.states) s slots below) same in
+    let longer : length (done ++ s ∷ []) ≡ length (taken ++ x ∷ []) = omega (arith, length-append done (s ∷ []), length-append taken (x ∷ []), same) in
+    let rest = more-all (done ++ s ∷ []) (taken ++ x ∷ []) old new slots numbers next longer (All-tail (λ i. i < length old.states) s slots below) (omega (arith, e)) in
+    subst (λ (ss : List ℕ). MoreStates ss (taken ++ x ∷ numbers) old (with_values slots numbers new)) (append_assoc done (s ∷ []) slots)
+    (subst (λ (ns : List ℤ). MoreStates ((done ++ s ∷ []) ++ slots) ns old (with_values slots numbers new)) (append_assoc taken (x ∷ []) numbers) rest)
+
+none-more : (column : Column) → MoreStates [] [] column column
+none-more column = record {
   kind_is = refl;
   count_is = refl;
   each = λ before are s lt. are s lt ∙ ap (state_of column.kind) (sym (append-nil (before s)));
 }
 
--- each state fits one row more
-pub fits-next : (column : Column) (slot n : ℕ) (x : ℤ) → slot < length column.states → IsWhole x → ((s : ℕ) → s < length column.states → Fits (state_at column s) n)
-    → (s : ℕ) → s < length column.states → Fits (state_at (replaced slot column (merged (state_at column slot) (state_of column.kind (x ∷ [])))) s) (n + 1)
-fits-next column slot n x lt own h s s_lt =
-    let v : AggState = merged (state_at column slot) (state_of column.kind (x ∷ [])) in
-    let unit : AggState = unit_of column.kind in
-    elim (cases_eq s slot) [
-      | inl e ↦
-          subst (λ (w : AggState). Fits w (n + 1)) (sym (ap (λ i. get_or (set column.states slot v) i unit) e ∙ get_or-set_same column.states slot v unit lt))
-          (states.fits_both (state_at column slot) (state_of column.kind (x ∷ [])) n 1 (h slot lt) (states.fits_of column.kind (x ∷ []) (own, tt)))
-      | inr ne ↦
-          subst (λ (w : AggState). Fits w (n + 1)) (sym (get_or-set_other column.states slot s v unit ne))
-          (states.fits_more (state_at column s) n (n + 1) (h s s_lt) (omega arith))
-    ]
+pub all-more : (column : Column) (slots : List ℕ) (numbers : List ℤ) → AreBelow (length column.states) slots → length numbers ≡ length slots → MoreStates slots numbers column (with_values slots numbers column)
+all-more column slots numbers below same = more-all [] [] column column slots numbers (none-more column) refl below same
 
 -- ---- counts
 

@@ -1,12 +1,10 @@
 //! The states of one aggregate, key by key.
 
 ghost use Rattle.std.specs.Prelude.{◌≡◌, ◌<◌, ◌-◌, ℕ, IfOk, length, replicate};
-ghost use Rattle.agg_laws.specs.States.{Fits, unit_of};
-ghost use Rattle.state_columns.specs.Columns.{state_at};
+ghost use Rattle.agg_laws.specs.States.{unit_of};
 ghost use Rattle.value_ids.specs.Coding.{AreBelow};
 ghost use Rattle.coded_columns.specs.Coded.{most_rows};
 ghost use Rattle.coded_columns.specs.Keyed.{AddsNumbers, AllFit, AreKeyed, kind_in, size_in, state_in};
-ghost use Rattle.coded_columns.specs.Slots.{MoreStates};
 
 use crate::counting::count_keys;
 use crate::summing::add_sums;
@@ -58,7 +56,7 @@ impl KeyStates {
         match self {
             KeyStates::Counts(counts) => count_keys(keys, counts),
             KeyStates::Sums(sums) => add_sums(keys, numbers, sums),
-            KeyStates::Others(column) => add_numbers(column, keys, numbers),
+            KeyStates::Others(column) => column.add_each(keys, numbers),
         }
     }
 
@@ -87,17 +85,4 @@ fn units(alloc: Global, kind: AggKind, count: usize) -> Result<StateColumn, NoMe
         column.push_unit();
     }
     Ok(column)
-}
-
-// Adds the number of each row to the state of the row's key in a column.
-fn add_numbers(column: &mut StateColumn, keys: &[u32], numbers: &[i64])
-    requires keyed { AreKeyed keys.now numbers.now }
-    requires below { AreBelow (length column.old.states) keys.now }
-    requires fits { (key : ℕ) → key < length column.old.states
-        → Fits (state_at column.old key) (most_rows - length keys.now) }
-    ensures { MoreStates keys.now numbers.now column.old column.new }
-{
-    for k in 0..keys.len() {
-        column.add_at(keys[k] as usize, numbers[k]);
-    }
 }

@@ -1,11 +1,12 @@
 -- A column of one kind, whose states are kept as that kind needs.
-use Rattle.std.proofs.Common.{◌≡◌, ℕ, ◌<◌, List, map, length, drop, get_or, set, sym, ap, ◌∙◌}
-use Rattle.std.proofs.Common.{arith}
+use Rattle.std.proofs.Common.{◌≡◌, ℕ, ℤ, ◌<◌, List, [], ◌∷◌, map, length, drop, get_or, set, sym, ap}
+use Rattle.std.proofs.Common.{◌∙◌, subst, arith}
 use Rattle.std.proofs.lemmas.List.{map-set, get_or-map, length-map, drop-map}
 use Rattle.agg_laws.specs.declared.aggregate_kind.AggKind.{AggKind}
 use Rattle.agg_laws.specs.declared.states.AggState.{AggState}
-use Rattle.agg_laws.specs.States.{unit_of}
-use Rattle.state_columns.specs.Columns.{Column, state_at, replaced, column_tail}
+use Rattle.agg_laws.specs.States.{unit_of, state_of, merged, Fits}
+use Rattle.state_columns.specs.Columns.{Column, state_at, replaced, column_tail, all_added, with_values}
+use Rattle.state_columns.proofs.AddedSteps.{added-map}
 
 module _ {X : Type 0} (f : X → AggState) (k : AggKind) where
   abbrev pub kept : List X → ℕ → Column
@@ -39,3 +40,29 @@ module _ {X : Type 0} (f : X → AggState) (k : AggKind) where
           spare = 0;
         })
         ∙ ap (column_tail from) is
+
+    -- each state fits so many values
+    pub fits_in : (d : X) (m : ℕ) → ((i : ℕ) → i < length col.states → Fits (state_at col i) m)
+        → (i : ℕ) → i < length xs → Fits (f (get_or xs i d)) m
+    fits_in d m h i lt =
+        let e = ap (λ (c : Column). length c.states) is in
+        let l = length-map xs f in
+        let in_column : i < length col.states = omega (arith, lt, e, l) in
+        subst (λ s. Fits s m) (item_is i d in_column)
+        (subst (λ (c : Column). Fits (state_at c i) m) (sym is) (h i in_column))
+
+    -- with values added to the states in their places
+    pub added_back : (d : X) (add : X → ℤ → X)
+        → ((x : X) (v : ℤ) → f (add x v) ≡ merged (f x) (state_of k (v ∷ []))) → f d ≡ unit_of k
+        → (places : List ℕ) (values : List ℤ) (ys : List X) → ys ≡ all_added add d places values xs
+        → kept ys n ≡ with_values places values col
+    added_back d add same unit places values ys are =
+        (λ j. record {
+          kind = k;
+          states = (ap (map f) are
+              ∙ added-map f add (λ s v. merged s (state_of k (v ∷ []))) d same places values xs
+              ∙ (λ i. all_added (λ s v. merged s (state_of k (v ∷ []))) (unit i) places values
+              (map f xs))) j;
+          spare = n;
+        })
+        ∙ ap (λ c. with_values places values c) is

@@ -12,6 +12,7 @@ pub mod PackSteps
 pub mod PlaceMerge
 pub mod GroupSteps
 pub mod ValueSteps
+pub mod AddedSteps
 pub mod ColumnSteps
 pub mod EachSteps
 pub mod CopySteps

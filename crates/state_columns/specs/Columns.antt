@@ -1,9 +1,9 @@
 -- The states of documents, kept pair by pair: a column for each pair.
-use Rattle.std.specs.Prelude.{◌≡◌, ℕ, ◌-◌, ◌≤◌, max, List, [], ◌∷◌, ◌++◌, length, map, drop, get_or}
+use Rattle.std.specs.Prelude.{◌≡◌, ℕ, ℤ, ◌-◌, ◌≤◌, max, List, [], ◌∷◌, ◌++◌, length, map, drop, get_or}
 use Rattle.std.specs.Prelude.{set}
 use Rattle.agg_laws.specs.declared.aggregate_kind.AggKind.{AggKind}
 use Rattle.agg_laws.specs.declared.states.AggState.{AggState}
-use Rattle.agg_laws.specs.States.{unit_of}
+use Rattle.agg_laws.specs.States.{unit_of, state_of, merged}
 
 -- states of one kind, and how many more there is room for
 pub record Column : Type 0 where
@@ -22,6 +22,22 @@ pushed c s = record { kind = c.kind; states = c.states ++ s ∷ []; spare = c.sp
 -- the column with another state in a place
 abbrev pub replaced : ℕ → Column → AggState → Column
 replaced i c s = record { kind = c.kind; states = set c.states i s; spare = c.spare }
+
+-- states to which values are added one after another, each to the state in its place
+abbrev pub all_added : {S : Type 0} → (S → ℤ → S) → S → List ℕ → List ℤ → List S → List S
+all_added add unit [] values states = states
+all_added add unit (p ∷ places) [] states = states
+all_added add unit (p ∷ places) (v ∷ values) states = all_added add unit places values
+    (set states p (add (get_or states p unit) v))
+
+-- the column with values added to the states in their places
+abbrev pub with_values : List ℕ → List ℤ → Column → Column
+with_values places values c = record {
+  kind = c.kind;
+  states = all_added (λ s v. merged s (state_of c.kind (v ∷ []))) (unit_of c.kind) places values
+      c.states;
+  spare = c.spare;
+}
 
 -- the column with room for so many more states
 abbrev pub widened : ℕ → Column → Column

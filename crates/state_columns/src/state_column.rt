@@ -2,11 +2,11 @@
 
 ghost use Rattle.std.specs.Prelude.{◌≡◌, ◌+◌, ◌-◌, ◌<◌, ◌≤◌, [], ◌∷◌, length, OnOk};
 ghost use Rattle.std.specs.Prelude.{OnErr, get_or, set};
-ghost use Rattle.std.specs.Prelude.{IfOk, vec_capacity};
+ghost use Rattle.std.specs.Prelude.{IfOk, vec_capacity, All, ℕ};
 ghost use Rattle.agg_laws.specs.Numbers.{most_values};
 ghost use Rattle.agg_laws.specs.States.{kind_of, unit_of, state_of, merged, Fits};
 ghost use Rattle.state_columns.specs.Columns.{column_of, column_tail, pushed, replaced, state_at};
-ghost use Rattle.state_columns.specs.Columns.{widened};
+ghost use Rattle.state_columns.specs.Columns.{all_added, widened, with_values};
 
 use crate::lists::{put, tail_of};
 use agg_laws::{
@@ -63,6 +63,37 @@ fn add_in<A: Aggregator>(states: &mut Vec<A::State>, place: usize, value: i64)
     ensures capacity { vec_capacity states.new ≡ vec_capacity states.old }
 {
     A::add(&mut states[place], value);
+}
+
+/// Adds values one after another, each to the state in its place.
+fn add_each_in<A: Aggregator>(states: &mut [A::State], places: &[u32], values: &[i64])
+    requires places { All (λ place. place < length states.old) places.now }
+    requires same { length values.now ≡ length places.now }
+    requires at_most { length places.now ≤ most_values }
+    requires fits { (place : ℕ) → place < length states.old
+        → A.fits (get_or states.old place A.empty) (most_values - length places.now) }
+    ensures { states.new ≡ all_added (λ s v. A.merged s (A.of (v ∷ []))) A.empty
+        places.now values.now states.old }
+{
+    for k in 0..places.len() {
+        A::add(&mut states[places[k] as usize], values[k]);
+    }
+}
+
+/// The same, of the states that are kept in a list that may grow.
+#[inline(always)]
+fn add_each_of<A: Aggregator>(states: &mut Vec<A::State>, places: &[u32], values: &[i64])
+    requires places { All (λ place. place < length states.old.items) places.now }
+    requires same { length values.now ≡ length places.now }
+    requires at_most { length places.now ≤ most_values }
+    requires fits { (place : ℕ) → place < length states.old.items
+        → A.fits (get_or states.old.items place A.empty) (most_values - length places.now) }
+    ensures items { states.new.items ≡ all_added (λ s v. A.merged s (A.of (v ∷ []))) A.empty
+        places.now values.now states.old.items }
+    ensures count { length states.new.items ≡ length states.old.items }
+    ensures capacity { vec_capacity states.new ≡ vec_capacity states.old }
+{
+    add_each_in::<A>(states, places, values);
 }
 
 /// Merges the state in one place into that in another.
@@ -215,6 +246,25 @@ impl StateColumn {
             Cells::Leasts(leasts) => add_in::<Least>(leasts, place, value),
             Cells::Greatests(greatests) => add_in::<Greatest>(greatests, place, value),
             Cells::Averages(averages) => add_in::<Average>(averages, place, value),
+        }
+    }
+
+    /// Adds values one after another, each to the state in its place. The kind of the states is
+    /// looked at once.
+    pub fn add_each(&mut self, places: &[u32], values: &[i64])
+        requires places { All (λ place. place < length self.old.states) places.now }
+        requires same { length values.now ≡ length places.now }
+        requires at_most { length places.now ≤ most_values }
+        requires fits { (place : ℕ) → place < length self.old.states
+            → Fits (state_at self.old place) (most_values - length places.now) }
+        ensures { self.new ≡ with_values places.now values.now self.old }
+    {
+        match &mut self.cells {
+            Cells::Counts(counts) => add_each_of::<Count>(counts, places, values),
+            Cells::Sums(sums) => add_each_of::<Sum>(sums, places, values),
+            Cells::Leasts(leasts) => add_each_of::<Least>(leasts, places, values),
+            Cells::Greatests(greatests) => add_each_of::<Greatest>(greatests, places, values),
+            Cells::Averages(averages) => add_each_of::<Average>(averages, places, values),
         }
     }
 

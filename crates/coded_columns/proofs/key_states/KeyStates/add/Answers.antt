@@ -1,12 +1,17 @@
 use Rattle.std.proofs.Common.{◌≡◌, ◌∙◌, ◌<◌, ◌-◌, ◌+ℤ◌, ℕ, ℤ, List, get_or, length, drop, pos, ap, subst, sym, refl, arith, inl, inr}
 use Rattle.std.proofs.lemmas.Bool.{cases_lt}
 use Rattle.std.proofs.lemmas.List.{take_at}
-use Rattle.agg_laws.specs.Numbers.{SumFits, sum_of}
+use Rattle.agg_laws.specs.Numbers.{SumFits, most_values, sum_of}
+use Rattle.agg_laws.specs.laws.States as states
 use Rattle.agg_laws.specs.declared.states.AggState.TheVariants.{Count, Sum}
 use Rattle.coded_columns.specs.Coded.{most_rows}
-use Rattle.coded_columns.specs.Keyed.{AllFit}
-use Rattle.coded_columns.specs.Slots.{in_slot}
+use Rattle.state_columns.specs.Columns.{state_at}
+use Rattle.value_ids.specs.Coding.{AreBelow}
+use Rattle.coded_columns.specs.Keyed.{AllFit, size_in}
+use Rattle.coded_columns.specs.Slots.{MoreStates, in_slot}
+use Rattle.coded_columns.specs.declared.key_states.KeyStates.{KeyStates}
 use Rattle.coded_columns.specs.declared.key_states.KeyStates.TheVariants.{Counts, Sums, Others}
+use Rattle.coded_columns.proofs.FoldSteps.{all-more}
 use Rattle.coded_columns.proofs.KeyedSteps.{adds-counts, adds-others, adds-sums, beyond}
 use Rattle.coded_columns.proofs.key_states.KeyStates.add.Goals as goal
 
@@ -28,8 +33,10 @@ add_sums-requires-clause-fits c = λ key lt.
     let value : c.deref_mut-in-Sums.result.now ≡ c.in-Sums.sums.items = c.deref_mut-in-Sums.ensures.value in
     subst (λ (l : List ℤ). SumFits (get_or l key (pos 0)) n) (sym value) (fits key (subst (λ (l : List ℤ). key < length l) value lt))
 
-pub add_numbers-requires-clause-fits : goal.add_numbers-requires-clause-fits
-add_numbers-requires-clause-fits c = λ key lt. subst (AllFit (most_rows - length c.args.keys.now)) c.in-Others.is c.requires.fits key lt
+pub add_each-requires-clause-fits : goal.add_each-requires-clause-fits
+add_each-requires-clause-fits c = λ key lt.
+    let n : ℕ = most_rows - length c.args.keys.now in
+    states.fits_more (state_at c.in-Others.column key) n (most_values - length c.args.keys.now) (subst (AllFit n) c.in-Others.is c.requires.fits key lt) (omega arith)
 
 pub returns-in-Counts : goal.returns-in-Counts
 returns-in-Counts c =
@@ -55,4 +62,8 @@ returns-in-Sums c =
 
 pub returns-in-Others : goal.returns-in-Others
 returns-in-Others c =
-    adds-others c.args.keys.now c.args.numbers.now c.args.self.now (Others c.in-Others.column) (Others c.add_numbers.new.column) c.in-Others.column c.add_numbers.new.column c.in-Others.is refl refl c.add_numbers.ensures
+    let column = c.in-Others.column in
+    let new = c.add_each.new.self in
+    let below : AreBelow (length column.states) c.args.keys.now = subst (λ (own : KeyStates). AreBelow (size_in own) c.args.keys.now) c.in-Others.is c.requires.below in
+    let more = subst (MoreStates c.args.keys.now c.args.numbers.now column) (sym c.add_each.ensures) (all-more column c.args.keys.now c.args.numbers.now below c.requires.keyed.same) in
+    adds-others c.args.keys.now c.args.numbers.now c.args.self.now (Others column) (Others new) column new c.in-Others.is refl refl more
