@@ -24,7 +24,7 @@ pub use numbers::four_at;
 pub use opening::{FrontRead, read_front, read_rest};
 pub use outside::NoMemory;
 pub use part::Part;
-pub use reading::read_exactly;
+pub use reading::{fill_exactly, read_exactly};
 pub use section::Section;
 pub use sections::sections_of;
 pub use sizes::check_sizes;

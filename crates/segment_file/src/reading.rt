@@ -1,5 +1,5 @@
 //! Bytes of a segment's file are read.
-ghost use Rattle.std.specs.Prelude.{◌≡◌, ◌<◌, ◌+◌, ◌^◌, IfOk, IfErr, IfSome, OnErr, IsErrOf, Some, length};
+ghost use Rattle.std.specs.Prelude.{◌≡◌, ◌<◌, ◌+◌, ◌^◌, IfOk, IfErr, IfSome, OnErr, OnOk, IsErrOf, Some, length};
 ghost use Rattle.outside.specs.Files.{bytes_at, bytes_of};
 ghost use Rattle.outside.specs.Reads.{LogsThrough, LogsUpTo};
 ghost use Rattle.outside.specs.Seen.{OnlyReads, seen};
@@ -8,7 +8,7 @@ ghost use Rattle.segment_file.specs.declared.part.Part.{Part};
 ghost use Rattle.segment_file.specs.declared.part.Part.TheVariants as part;
 
 use crate::{HeadFault, Part};
-use outside::{Bytes, Shelf, ShelfFault, read_bytes};
+use outside::{Bytes, Shelf, ShelfFault, read_bytes, read_into};
 use std::alloc::Global;
 
 /// So many bytes of a file from an offset on. Where the file ends before, its front says what it is
@@ -43,6 +43,41 @@ pub fn read_exactly<S: Shelf>(
         return Err(HeadFault::NotASegment(Part::Head));
     }
     Ok(bytes)
+}
+
+/// The same, in place of other bytes.
+pub fn fill_exactly<S: Shelf>(
+    alloc: Global,
+    shelf: &mut S,
+    file: &str,
+    offset: u64,
+    count: u64,
+    into: &mut Vec<u8>,
+) -> Result<(), HeadFault>
+    requires some { 0 < offset + count }
+    requires fits { offset + count < 2 ^ 64 }
+    ensures bytes { OnOk result (IfSome (S.held shelf.old) (λ files.
+        into.new.items ≡ bytes_at files file.now offset count)) }
+    ensures size { OnOk result (length into.new.items ≡ count) }
+    ensures short { IfErr result (λ fault. (p : Part) → fault ≡ NotASegment p →
+        (p ≡ part.Head) × IfSome (S.held shelf.old) (λ files.
+        length (bytes_of (Some files) file.now) < offset + count)) }
+    ensures only_reads { OnlyReads (IsErrOf result HeadFault.ReadFault)
+        (seen S.Shelf shelf.old) (seen S.Shelf shelf.new) }
+    ensures log { OnOk result (LogsThrough file.now offset (offset + count)
+        (S.log shelf.old) (S.log shelf.new)) }
+    ensures log_of_fault { OnErr result
+        (LogsUpTo file.now offset (offset + count) (S.log shelf.old) (S.log shelf.new)) }
+{
+    into.resize(count as usize, 0)?;
+    let read = match read_into(alloc, shelf, file, offset, into) {
+        Ok(read) => read,
+        Err(fault) => return Err(HeadFault::from(fault)),
+    };
+    if (read as u64) < count {
+        return Err(HeadFault::NotASegment(Part::Head));
+    }
+    Ok(())
 }
 
 /// How many bytes a file has; one that is missing has none.

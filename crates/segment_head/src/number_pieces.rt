@@ -15,7 +15,7 @@ use data_types::FieldKind;
 use dictionary::{Dictionary, MOST_VALUES, push_numbers};
 use dictionary_reading::four_at;
 use outside::{Place, Shelf};
-use segment_file::{HeadFault, Part, read_exactly};
+use segment_file::{HeadFault, Part, fill_exactly, read_exactly};
 use std::alloc::Global;
 
 // Numbers that are read at once: 64 KB.
@@ -135,15 +135,16 @@ fn push_pieces<S: Shelf>(
         (place.now.offset + place.now.length) (S.log shelf.old) (S.log shelf.new) }
 {
     let file = place.file.as_str();
+    let mut bytes = Vec::new(alloc);
     let mut done = 0;
     'pieces: while done < count {
         let many = MOST_NUMBERS.min(count - done);
         let at = place.offset + 4 + 8 * done as u64;
-        let bytes = match read_exactly(alloc, shelf, file, at, 8 * many as u64) {
-            Ok(bytes) => bytes,
+        match fill_exactly(alloc, shelf, file, at, 8 * many as u64, &mut bytes) {
+            Ok(()) => {}
             Err(fault) => return Err(fault),
-        };
-        match push_numbers(kind, bytes.as_slice(), numbers) {
+        }
+        match push_numbers(kind, &bytes, numbers) {
             Ok(()) => {}
             Err(fault) => return Err(of_dictionary(fault, column)),
         }
