@@ -28,6 +28,10 @@ use values::{NoMemory, Row, Value};
 // At most so many values are kept for the next keys. It is a power of two.
 const MOST_VALUES: usize = 8192;
 
+// How often the place after the last group was right is counted up to so many, and down where it
+// was wrong. Above half of it that place is looked at first.
+const MOST_NEAR: u8 = 3;
+
 // Room for the key and the states of one group after another, and where groups are looked for
 // first.
 #[derive(Drop)]
@@ -38,6 +42,7 @@ struct GroupRoom {
     states: StateRow,
     places: Vec<u64>,
     next: u32,
+    near: u8,
 }
 
 // A key that was made of values, and values of earlier keys, which are shared.
@@ -47,13 +52,15 @@ struct MadeKey {
     values: Vec<Option<Value>>,
 }
 
-// Where the group of a key is looked for first: at the place that is noted for ids like its own,
-// and after the group of the last key, since keys come in the order of their ids, and most groups
-// began in it.
+// Where the group of a key is looked for first: after the group of the last key, since keys come in
+// the order of their ids, and at the place that is noted for ids of its hash. The first of the two
+// is the one that was right before.
 #[derive(Clone, Copy)]
-struct Likely {
-    noted: Option<u32>,
+struct Likely<'a> {
     next: u32,
+    is_near: bool,
+    places: &'a [u64],
+    hash: u64,
 }
 
 impl GroupRoom {
@@ -69,12 +76,27 @@ impl GroupRoom {
             states: StateRow::new(alloc),
             places,
             next: 0,
+            near: MOST_NEAR,
         }
     }
 
-    // Notes where the group of ids of this hash was.
+    // Whether the next place is most likely right.
+    fn is_near(&self) -> bool {
+        self.near > MOST_NEAR / 2
+    }
+
+    // Notes where the group of ids of this hash was, unless it was looked for at the next place
+    // first and was there.
     fn meet(&mut self, hash: u64, place: u32) {
-        note(&mut self.places, hash, place);
+        let is_next = place == self.next;
+        if !is_next || !self.is_near() {
+            note(&mut self.places, hash, place);
+        }
+        self.near = if is_next {
+            self.near.saturating_add(1).min(MOST_NEAR)
+        } else {
+            self.near.saturating_sub(1)
+        };
         self.next = place.wrapping_add(1);
     }
 
@@ -175,8 +197,10 @@ fn merge_ids(
 {
     let hash = hash_of(&room.ids);
     let likely = Likely {
-        noted: guess(&room.places, hash),
         next: room.next,
+        is_near: room.is_near(),
+        places: &room.places,
+        hash,
     };
     let alloc = room.alloc;
     let known = match known_place(
@@ -209,7 +233,7 @@ fn known_place(
     segment: &SegmentColumns<'_>,
     columns: &[u16],
     ids: &[u32],
-    likely: Likely,
+    likely: Likely<'_>,
     table: &GroupTable,
     made: &mut MadeKey,
 ) -> Result<Option<u32>, NoMemory>
@@ -219,12 +243,15 @@ fn known_place(
     ensures { IfOk result (λ known. OfKey segment.now columns.now ids.now (λ own.
         MatchOption known (made.new.key ≡ own) (IsKeyAt table.now own))) }
 {
-    if let Some(place) = likely.noted {
+    if likely.is_near && has_key(segment, columns, ids, table, likely.next) {
+        return Ok(Some(likely.next));
+    }
+    if let Some(place) = guess(likely.places, likely.hash) {
         if has_key(segment, columns, ids, table, place) {
             return Ok(Some(place));
         }
     }
-    if has_key(segment, columns, ids, table, likely.next) {
+    if !likely.is_near && has_key(segment, columns, ids, table, likely.next) {
         return Ok(Some(likely.next));
     }
     let room = replace(&mut made.key, Row::new(alloc));
@@ -272,6 +299,7 @@ fn is_key(segment: &SegmentColumns<'_>, columns: &[u16], ids: &[u32], key: &Row)
 }
 
 // Whether a value is that of an id in a field that is looked at.
+#[inline(always)]
 fn is_value(segment: &SegmentColumns<'_>, field: u16, id: u32, value: &Value) -> bool
     requires { IsIdOfRow segment.now field id }
     ensures { OnTrue result (OfId segment.now field id (λ own. value.now ≡ own)) }
@@ -283,6 +311,7 @@ fn is_value(segment: &SegmentColumns<'_>, field: u16, id: u32, value: &Value) ->
 }
 
 // Whether a value is the one at an id.
+#[inline(always)]
 fn has_value(dictionary: &Dictionary, id: u32, value: &Value) -> bool
     requires { id < length dictionary.now.values }
     ensures { OnTrue result (slice_get dictionary.now.values id ≡ Some value.now) }

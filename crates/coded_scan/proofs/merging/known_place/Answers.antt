@@ -11,7 +11,7 @@ pub returns-then-has_key : goal.returns-then-has_key
 returns-then-has_key c = OnTrue_at c.if-has_key.true c.has_key.ensures
 
 pub returns-then-has_key-2 : goal.returns-then-has_key-2
-returns-then-has_key-2 c = OnTrue_at c.if-has_key-2.true c.has_key-2.ensures
+returns-then-has_key-2 c = OnTrue_at c.if-has_key-2.true c.has_key-in-Some.ensures
 
 pub returns : goal.returns
 returns c = λ row lt are.
