@@ -1,6 +1,6 @@
 -- Two cursors that take turns, by the machine of cursors.
-use Rattle.std.proofs.Common.{◌≡◌, ◌∙◌, ◌+◌, ◌-◌, ℕ, Bool, true, false, cond, List, [], ◌∷◌, length, take, Option, Some, None, Result, Ok, Err, refl, sym, ap, subst}
-use Rattle.std.specs.Prelude.{codes, is_some, nat_eq, nat_le, IsErrOf, IsSomeAnd}
+use Rattle.std.proofs.Common.{◌≡◌, ◌∙◌, ◌+◌, ◌-◌, ℕ, Bool, true, false, cond, List, [], ◌∷◌, length, take, Option, Some, None, Result, Ok, refl, sym, subst}
+use Rattle.std.specs.Prelude.{is_some, nat_eq, nat_le, IsErrOf, IsSomeAnd}
 use Rattle.std.specs.FinMap as finite
 use Rattle.std.specs.List.{All}
 use Rattle.std.proofs.lemmas.List.Elements.{All-from_recursion}
@@ -20,32 +20,43 @@ use Rattle.cursor_serve.specs.ServingStands.{OpenCursor, ServingStands, segments
 use Rattle.serving.specs.Calls.{Serves}
 use Rattle.serving.specs.declared.fault.ServeFault.{ServeFault}
 use Rattle.serving.specs.declared.fault.ServeFault.TheVariants as fault
+use Rattle.embedded_example.specs.Steps.{AreBegun, AreFetched, IsOpened, Leads, begun, both_begun, both_closed, both_fetched, early_name, late_name}
 use Rattle.embedded_example.specs.Turns.{IsReplyTo, LeavesReplaced, PrintOwn, live_with}
 
 -- ---- one call
 
 record Left (after : Option Files) (P : Files → Type 0) : Type 0 where
-  files : Files
-  told : after ≡ Some files
-  has : P files
+  left : Files
+  told : after ≡ Some left
+  has : P left
 
 left_with : (after : Option Files) (P : Files → Type 0) → IsSomeAnd after P → Left after P
 left_with None P h = absurd h
-left_with (Some files) P h = record { files = files; told = refl; has = h }
+left_with (Some files) P h = record { left = files; told = refl; has = h }
 
 -- a call that is answered does its step
-record Did {A : Type 0} (step : Machine → After A) (table : Table) (new : List OpenCursor) (after : Option Files) (texts : Texts) (m : Machine) (a : A) : Type 0 where
-  left : Files
-  told : after ≡ Some left
-  answer : (step m).answer ≡ Ok a
-  stands : ServingStands new left texts table (step m).machine
+pub led_by : {A : Type 0} (step : Machine → After A) (table : Table) (old new : List OpenCursor) (before after : Option Files) (a : A) → Serves step table old new before after (Ok a)
+    → Leads table (λ m. (step m).machine) (λ m. (step m).answer ≡ Ok a) old new before after
+led_by step table old new before after a serves = serves
 
-did : {A : Type 0} (step : Machine → After A) (table : Table) (old new : List OpenCursor) (before after : Option Files) (a : A) → Serves step table old new before after (Ok a)
-    → (files : Files) → before ≡ Some files → (texts : Texts) (m : Machine) → ServingStands old files texts table m → Did step table new after texts m a
-did step table old new before after a serves files told texts m stands =
-    let there = left_with after (λ left. ((step m).answer ≡ Ok a) × ServingStands new left texts table (step m).machine)
-    (subst (λ f. Serves step table old new f after (Ok a)) told serves texts m stands) in
-    record { left = there.files; told = there.told; answer = there.has.0; stands = there.has.1 }
+-- calls after others
+pub led_then : (table : Table) (first second : Machine → Machine) (P Q : Machine → Type 0) (a b c : List OpenCursor) (before between after : Option Files)
+    → Leads table first P a b before between → Leads table second Q b c between after
+    → Leads table (λ m. second (first m)) (λ m. P m × Q (first m)) a c before after
+led_then table first second P Q a b c None between after s t = tt
+led_then table first second P Q a b c (Some files) between after s t = λ texts m stands.
+    let one = left_with between (λ left. P m × ServingStands b left texts table (first m)) (s texts m stands) in
+    let two = left_with after (λ left. Q (first m) × ServingStands c left texts table (second (first m)))
+    (subst (λ d. Leads table second Q b c d after) one.told t texts (first m) one.has.1) in
+    subst (λ d. IsSomeAnd d (λ left. (P m × Q (first m)) × ServingStands c left texts table (second (first m)))) (sym two.told) ((one.has.0, two.has.0), two.has.1)
+
+-- what is so of the state before, in other words
+pub led_so : (table : Table) (to : Machine → Machine) (P Q : Machine → Type 0) (a b : List OpenCursor) (before after : Option Files) → ((m : Machine) → P m → Q m)
+    → Leads table to P a b before after → Leads table to Q a b before after
+led_so table to P Q a b None after so s = tt
+led_so table to P Q a b (Some files) after so s = λ texts m stands.
+    let one = left_with after (λ left. P m × ServingStands b left texts table (to m)) (s texts m stands) in
+    subst (λ d. IsSomeAnd d (λ left. Q m × ServingStands b left texts table (to m))) (sym one.told) (so m one.has.0, one.has.1)
 
 -- ---- the lists that are live
 
@@ -99,19 +110,67 @@ put_same : (a b : Live) (x y : ℕ) (name : List ℕ) (rows : List (List Value))
     → finite.insert a name (record { number = x; rows = rows }) ≡ finite.insert b name (record { number = y; rows = rows })
 put_same a b x y name rows p q = λ i. finite.insert (p i) name (record { number = q i; rows = rows })
 
--- ---- the calls one after the other
+-- ---- a few calls
 
-abbrev Done : Result (Unit {0}) ServeFault
+abbrev pub Done : Result (Unit {0}) ServeFault
 Done = Ok tt
 
-not_large : ¬ IsErrOf Done fault.TooLarge
+pub not_large : ¬ IsErrOf Done fault.TooLarge
 not_large e = cc
 
-abbrev E : List ℕ
-E = codes "early"
+-- a cursor is opened and answers its first list
+pub begins : (table : Table) (name : List ℕ) (query : BoundQuery) (a b c : List OpenCursor) (d0 d1 d2 : Option Files) (n1 n2 : ℕ)
+    → Serves (opened name query) table a b d0 d1 (Ok n1) → Serves (stepped name) table b c d1 d2 (Ok n2)
+    → Leads table (begun name query) (IsOpened name query) a c d0 d2
+begins table name query a b c d0 d1 d2 n1 n2 one two =
+    let first : Machine → Machine = λ m. (opened name query m).machine in
+    let second : Machine → Machine = λ m. (stepped name m).machine in
+    led_so table (begun name query) (λ m. ((opened name query m).answer ≡ Ok n1) × ((stepped name (first m)).answer ≡ Ok n2)) (IsOpened name query) a c d0 d2 (λ m h. (n1, h.0))
+    (led_then table first second (λ m. (opened name query m).answer ≡ Ok n1) (λ m. (stepped name m).answer ≡ Ok n2) a b c d0 d1 d2 one two)
 
-abbrev L : List ℕ
-L = codes "late"
+-- both begin, and rows are put in the place of others between them
+pub both_begin : (table : Table) (early late : BoundQuery) (name : List ℕ) (rows : List (List Value)) (a b c d : List OpenCursor) (d0 d1 d2 d3 : Option Files)
+    → Leads table (begun early_name early) (IsOpened early_name early) a b d0 d1 → Serves (replaced 1 name rows) table b c d1 d2 Done → Leads table (begun late_name late) (IsOpened late_name late) c d d2 d3
+    → Leads table (both_begun early late name rows) (AreBegun early late name rows) a d d0 d3
+both_begin table early late name rows a b c d d0 d1 d2 d3 one two three =
+    let first = begun early_name early in
+    let second : Machine → Machine = λ m. (replaced 1 name rows m).machine in
+    let third = begun late_name late in
+    let P1 = IsOpened early_name early in
+    let P2 : Machine → Type 0 = λ m. (replaced 1 name rows m).answer ≡ Ok tt in
+    let P3 = IsOpened late_name late in
+    led_so table (both_begun early late name rows) (λ m. (P1 m × P2 (first m)) × P3 (second (first m))) (AreBegun early late name rows) a d d0 d3
+    (λ m h. record { first_opened = h.0.0; put = h.0.1; second_opened = h.1 })
+    (led_then table (λ m. second (first m)) third (λ m. P1 m × P2 (first m)) P3 a c d d0 d2 d3 (led_then table first second P1 P2 a b c d0 d1 d2 one two) three)
+
+-- one cursor goes on, and both give their replies
+pub both_fetch : (table : Table) (a b c d : List OpenCursor) (d0 d1 d2 d3 : Option Files) (n : ℕ) (first second : List ℕ)
+    → Serves (stepped early_name) table a b d0 d1 (Ok n) → Serves (fetched late_name) table b c d1 d2 (Ok second) → Serves (fetched early_name) table c d d2 d3 (Ok first)
+    → Leads table both_fetched (AreFetched first second) a d d0 d3
+both_fetch table a b c d d0 d1 d2 d3 n first second one two three =
+    let f1 : Machine → Machine = λ m. (stepped early_name m).machine in
+    let f2 : Machine → Machine = λ m. (fetched late_name m).machine in
+    let f3 : Machine → Machine = λ m. (fetched early_name m).machine in
+    let P1 : Machine → Type 0 = λ m. (stepped early_name m).answer ≡ Ok n in
+    let P2 : Machine → Type 0 = λ m. (fetched late_name m).answer ≡ Ok second in
+    let P3 : Machine → Type 0 = λ m. (fetched early_name m).answer ≡ Ok first in
+    led_so table both_fetched (λ m. (P1 m × P2 (f1 m)) × P3 (f2 (f1 m))) (AreFetched first second) a d d0 d3
+    (λ m h. record { late_is = h.0.1; early_is = h.1 })
+    (led_then table (λ m. f2 (f1 m)) f3 (λ m. P1 m × P2 (f1 m)) P3 a c d d0 d2 d3 (led_then table f1 f2 P1 P2 a b c d0 d1 d2 one two) three)
+
+-- both are closed
+pub both_close : (table : Table) (a b c : List OpenCursor) (d0 d1 d2 : Option Files)
+    → Serves (closed late_name) table a b d0 d1 Done → Serves (closed early_name) table b c d1 d2 Done
+    → Leads table both_closed (λ m. Unit {0}) a c d0 d2
+both_close table a b c d0 d1 d2 one two =
+    let f1 : Machine → Machine = λ m. (closed late_name m).machine in
+    let f2 : Machine → Machine = λ m. (closed early_name m).machine in
+    let P1 : Machine → Type 0 = λ m. (closed late_name m).answer ≡ Ok tt in
+    let P2 : Machine → Type 0 = λ m. (closed early_name m).answer ≡ Ok tt in
+    led_so table both_closed (λ m. P1 m × P2 (f1 m)) (λ m. Unit {0}) a c d0 d2 (λ m h. tt)
+    (led_then table f1 f2 P1 P2 a b c d0 d1 d2 one two)
+
+-- ---- all of them
 
 -- what the two cursors print, and what is left, from a state of the machine
 record Turned (table : Table) (early late : BoundQuery) (name : List ℕ) (rows : List (List Value)) (after : Option Files) (first second : List ℕ) (texts : Texts) (m : Machine) : Type 0 where
@@ -121,59 +180,52 @@ record Turned (table : Table) (early late : BoundQuery) (name : List ℕ) (rows 
   told : after ≡ Some left
   stands : Stands left (HasTable texts (segments_of (live_with table name rows m)))
 
-module _ (table : Table) (early late : BoundQuery) (name : List ℕ) (rows : List (List Value)) (c1 c2 c3 c4 c5 c6 c7 c8 c9 c10 : List OpenCursor) (d0 d1 d2 d3 d4 d5 d6 d7 d8 d9 d10 : Option Files) (n1 n2 n4 n5 n6 : ℕ)
-    (first second : List ℕ) where
+module _ (table : Table) (early late : BoundQuery) (name : List ℕ) (rows : List (List Value)) (c1 c2 c3 : List OpenCursor) (d0 d1 d2 d3 : Option Files) (first second : List ℕ) where
   abbrev R : List (List Value)
   R = ordered table.settings.sorted rows
 
-  -- what each call did
+  abbrev begun_both : Machine → Machine
+  begun_both = both_begun early late name R
+
+  -- what each few calls did
   pub record Calls : Type 0 where
-    pub told : d2 ≡ d0
-    pub open_early : Serves (opened E early) table [] c1 d0 d1 (Ok n1)
-    pub step_early : Serves (stepped E) table c1 c2 d1 d2 (Ok n2)
-    pub replace : Lacks d2 (kept_name name 1) → All (λ row. All IsUnicode row) rows → ¬ IsErrOf Done fault.TooLarge → Serves (replaced 1 name R) table c2 c3 d2 d3 Done
-    pub open_late : Serves (opened L late) table c3 c4 d3 d4 (Ok n4)
-    pub step_late : Serves (stepped L) table c4 c5 d4 d5 (Ok n5)
-    pub step_again : Serves (stepped E) table c5 c6 d5 d6 (Ok n6)
-    pub fetch_late : Serves (fetched L) table c6 c7 d6 d7 (Ok second)
-    pub fetch_early : Serves (fetched E) table c7 c8 d7 d8 (Ok first)
-    pub close_late : Serves (closed L) table c8 c9 d8 d9 Done
-    pub close_early : Serves (closed E) table c9 c10 d9 d10 Done
+    pub begin : Lacks d0 (kept_name name 1) → All (λ row. All IsUnicode row) rows → Leads table begun_both (AreBegun early late name R) [] c1 d0 d1
+    pub fetch : Leads table both_fetched (AreFetched first second) c1 c2 d1 d2
+    pub close : Leads table both_closed (λ m. Unit {0}) c2 c3 d2 d3
 
   module _ (law : FetchedOwn) (s : Calls) where
     turned : (files : Files) → d0 ≡ Some files → (texts : Texts) (m : Machine) → ServingStands [] files texts table m → finite.get files (kept_name name 1) ≡ None
-        → All (λ row. All IsUnicode row) rows → Turned table early late name rows d10 first second texts m
+        → All (λ row. All IsUnicode row) rows → Turned table early late name rows d3 first second texts m
     turned files told texts m stands free unicode =
-        let a1 = did (opened E early) table [] c1 d0 d1 n1 s.open_early files told texts m stands in
+        let lacks : Lacks d0 (kept_name name 1) = subst (λ d. Lacks d (kept_name name 1)) (sym told) free in
+        let all = led_then table (λ m. both_fetched (begun_both m)) both_closed (λ m. AreBegun early late name R m × AreFetched first second (begun_both m)) (λ m. Unit {0}) [] c2 c3 d0 d2 d3
+        (led_then table begun_both both_fetched (AreBegun early late name R) (AreFetched first second) [] c1 c2 d0 d1 d2 (s.begin lacks unicode) s.fetch) s.close in
+        let end : Left d3 (λ left. ((AreBegun early late name R m × AreFetched first second (begun_both m)) × Unit {0}) × ServingStands c3 left texts table (both_closed (both_fetched (begun_both m)))) =
+        left_with d3 (λ left. ((AreBegun early late name R m × AreFetched first second (begun_both m)) × Unit {0}) × ServingStands c3 left texts table (both_closed (both_fetched (begun_both m))))
+        (subst (λ d. Leads table (λ m. both_closed (both_fetched (begun_both m))) (λ m. (AreBegun early late name R m × AreFetched first second (begun_both m)) × Unit {0}) [] c3 d d3) told all texts m stands) in
+        let b = end.has.0.0.0 in
+        let f = end.has.0.0.1 in
+        let E = early_name in
+        let L = late_name in
         let m1 = (opened E early m).machine in
-        let a2 = did (stepped E) table c1 c2 d1 d2 n2 s.step_early a1.left a1.told texts m1 a1.stands in
         let m2 = (stepped E m1).machine in
-        let lacks : Lacks d2 (kept_name name 1) = subst (λ d. Lacks d (kept_name name 1)) (sym (s.told ∙ told)) free in
-        let a3 = did (replaced 1 name R) table c2 c3 d2 d3 tt (s.replace lacks unicode not_large) a2.left a2.told texts m2 a2.stands in
         let m3 = (replaced 1 name R m2).machine in
-        let a4 = did (opened L late) table c3 c4 d3 d4 n4 s.open_late a3.left a3.told texts m3 a3.stands in
         let m4 = (opened L late m3).machine in
-        let a5 = did (stepped L) table c4 c5 d4 d5 n5 s.step_late a4.left a4.told texts m4 a4.stands in
         let m5 = (stepped L m4).machine in
-        let a6 = did (stepped E) table c5 c6 d5 d6 n6 s.step_again a5.left a5.told texts m5 a5.stands in
         let m6 = (stepped E m5).machine in
-        let a7 = did (fetched L) table c6 c7 d6 d7 second s.fetch_late a6.left a6.told texts m6 a6.stands in
         let m7 = (fetched L m6).machine in
-        let a8 = did (fetched E) table c7 c8 d7 d8 first s.fetch_early a7.left a7.told texts m7 a7.stands in
         let m8 = (fetched E m7).machine in
-        let a9 = did (closed L) table c8 c9 d8 d9 tt s.close_late a8.left a8.told texts m8 a8.stands in
         let m9 = (closed L m8).machine in
-        let a10 = did (closed E) table c9 c10 d9 d10 tt s.close_early a9.left a9.told texts m9 a9.stands in
         let m10 = (closed E m9).machine in
         let between : List Line = Step E ∷ Replace name R ∷ Open L late ∷ Step L ∷ Step E ∷ Fetch L ∷ [] in
-        let first_is = law m E early n1 0 between a1.answer (All-from_recursion (LeavesOpen E) between (tt, (tt, (tt, (tt, (tt, (tt, tt))))))) in
+        let first_is = law m E early b.first_opened.0 0 between b.first_opened.1 (All-from_recursion (LeavesOpen E) between (tt, (tt, (tt, (tt, (tt, (tt, tt))))))) in
         let after : List Line = Step L ∷ Step E ∷ [] in
-        let second_is = law m3 L late n4 0 after a4.answer (All-from_recursion (LeavesOpen L) after (tt, (tt, tt))) in
+        let second_is = law m3 L late b.second_opened.0 0 after b.second_opened.1 (All-from_recursion (LeavesOpen L) after (tt, (tt, tt))) in
         let one = opens m E early in
         let two = steps_by m1 E (finite.get m1.cursors E) in
         let live : m2.live ≡ m.live = two.live ∙ one.live in
         let next : m2.next ≡ m.next = two.next ∙ one.next in
-        let put : m3.live ≡ finite.insert m2.live name (record { number = m2.next; rows = R }) = replaces_by 1 name R (finite.get m2.live name) m2 a3.answer in
+        let put : m3.live ≡ finite.insert m2.live name (record { number = m2.next; rows = R }) = replaces_by 1 name R (finite.get m2.live name) m2 b.put in
         let live_is : m3.live ≡ live_with table name rows m = put ∙ put_same m2.live m.live m2.next m.next name R live next in
         let to5 : m5.live ≡ m3.live = (steps_by m4 L (finite.get m4.cursors L)).live ∙ (opens m3 L late).live in
         let to7 : m7.live ≡ m5.live = (fetches_by m6 L (finite.get m6.cursors L)).live ∙ (steps_by m5 E (finite.get m5.cursors E)).live in
@@ -181,11 +233,11 @@ module _ (table : Table) (early late : BoundQuery) (name : List ℕ) (rows : Lis
         let to10 : m10.live ≡ m9.live = (closes_by m9 E (finite.get m9.cursors E)).live in
         let end_is : m10.live ≡ live_with table name rows m = to10 ∙ to9 ∙ to7 ∙ to5 ∙ live_is in
         record {
-          first_is = sym first_is ∙ a8.answer;
-          second_is = subst (λ lists. IsReplyTo late lists second) live_is (sym second_is ∙ a7.answer);
-          left = a10.left;
-          told = a10.told;
-          stands = subst (λ lists. Stands a10.left (HasTable texts (segments_of lists))) end_is a10.stands.live;
+          first_is = sym first_is ∙ f.early_is;
+          second_is = subst (λ lists. IsReplyTo late lists second) live_is (sym second_is ∙ f.late_is);
+          left = end.left;
+          told = end.told;
+          stands = subst (λ lists. Stands end.left (HasTable texts (segments_of lists))) end_is end.has.1.live;
         }
 
     pub prints_own : PrintOwn table early late name rows d0 first second
@@ -195,10 +247,10 @@ module _ (table : Table) (early late : BoundQuery) (name : List ℕ) (rows : Lis
         by None told = tt
         by (Some files) told = λ texts m stands free unicode. let t = turned files told texts m stands free unicode in (t.first_is, t.second_is)
 
-    pub leaves_replaced : LeavesReplaced table name rows d0 d10
+    pub leaves_replaced : LeavesReplaced table name rows d0 d3
     leaves_replaced = by d0 refl
       where
-        by : (before : Option Files) → d0 ≡ before → LeavesReplaced table name rows before d10
+        by : (before : Option Files) → d0 ≡ before → LeavesReplaced table name rows before d3
         by None told = tt
         by (Some files) told = λ texts m stands free unicode.
             let t = turned files told texts m stands free unicode in
